@@ -1,0 +1,11 @@
+-- What a reader must believe, in the order of document 01; specs/Promises.antt says what is proved of it.
+pub mod Names
+pub mod Words
+pub mod Sets
+pub mod Positions
+pub mod Following
+pub mod Rewriting
+pub mod Waiting
+pub mod Line
+pub mod Heard
+pub mod Promises

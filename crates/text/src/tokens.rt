@@ -1,0 +1,162 @@
+// The token reader: what stands next in what is left of a text.
+ghost use mathlib.Core.Path.{_≡_};
+ghost use Rattle.text.specs.Tokens.{span, blankByte, nameByte, sameName, wordToken, signToken, nextToken};
+use crate::classes::ASTERISK;
+use crate::classes::BLANK;
+use crate::classes::CLOSE;
+use crate::classes::DIGIT;
+use crate::classes::LETTER;
+use crate::classes::OPEN;
+use crate::classes::PLUS;
+use crate::classes::SEMICOLON;
+use crate::classes::class;
+
+// What stands next in a text.
+pub enum Token {
+    Semicolon,
+    Plus,
+    Star,
+    Open,
+    Close,
+    // The keywords.
+    Path,
+    End,
+    // A name, of so many bytes.
+    Name(usize),
+    // The text ends.
+    Nothing,
+    // A bad byte, or a digit at a token's start.
+    Bad,
+    // A name of 17 or more bytes.
+    Long,
+}
+
+// A token, the place of its first byte, and how many bytes are used up with it and the blanks before it.
+pub struct Read {
+    pub token: Token,
+    pub start: usize,
+    pub used: usize,
+}
+
+// A letter or a digit.
+fn in_name(b: u8) -> bool
+    ensures { λ r. ⌜ r ≡ nameByte b ⌝ }
+{
+    let c = class(b);
+    if c == LETTER { true } else { c == DIGIT }
+}
+
+// How many blanks the text starts with.
+fn blanks(s: &[u8]) -> usize
+    ensures { λ r. ⌜ r ≡ span blankByte (now (s .entry)) ⌝ }
+{
+    let mut i = 0;
+    while i < s.len() {
+        if class(s[i]) != BLANK {
+            return i;
+        }
+        i += 1;
+    }
+    i
+}
+
+// How many letters and digits the text starts with.
+fn run(s: &[u8]) -> usize
+    ensures { λ r. ⌜ r ≡ span nameByte (now (s .entry)) ⌝ }
+{
+    let mut i = 0;
+    while i < s.len() {
+        if !in_name(s[i]) {
+            return i;
+        }
+        i += 1;
+    }
+    i
+}
+
+// Two names are one.
+pub fn same_name(m: &[u8], n: &[u8]) -> bool
+    ensures { λ r. ⌜ r ≡ sameName (now (m .entry)) (now (n .entry)) ⌝ }
+{
+    if m.len() != n.len() {
+        return false;
+    }
+    let mut i = 0;
+    while i < m.len() {
+        if m[i] != n[i] {
+            return false;
+        }
+        i += 1;
+    }
+    true
+}
+
+// What a run of letters and digits is: a keyword, a name, or too long.
+fn word_token(w: &[u8]) -> Token
+    ensures { λ r. ⌜ r ≡ wordToken (now (w .entry)) ⌝ }
+{
+    if same_name(w, b"path") {
+        return Token::Path;
+    }
+    if same_name(w, b"end") {
+        return Token::End;
+    }
+    let n = w.len();
+    if 16 < n {
+        return Token::Long;
+    }
+    Token::Name(n)
+}
+
+// The sign of a class.
+fn sign_token(c: u8) -> Token
+    ensures { λ r. ⌜ r ≡ signToken c ⌝ }
+{
+    if c == SEMICOLON {
+        return Token::Semicolon;
+    }
+    if c == PLUS {
+        return Token::Plus;
+    }
+    if c == ASTERISK {
+        return Token::Star;
+    }
+    if c == OPEN {
+        return Token::Open;
+    }
+    if c == CLOSE {
+        return Token::Close;
+    }
+    Token::Bad
+}
+
+// The next token of what is left of a text.
+pub fn next(s: &[u8]) -> Read
+    ensures { λ r. ⌜ r ≡ nextToken (now (s .entry)) ⌝ }
+{
+    let k = blanks(s);
+    let rest = &s[k..];
+    if rest.len() == 0 {
+        return Read {
+            token: Token::Nothing,
+            start: k,
+            used: k,
+        };
+    }
+    let c = class(rest[0]);
+    if c == LETTER {
+        let n = run(rest);
+        let token = word_token(&rest[..n]);
+        return Read {
+            token: token,
+            start: k,
+            used: k + n,
+        };
+    }
+    let token = sign_token(c);
+    Read {
+        token: token,
+        start: k,
+        used: k + 1,
+    }
+}
