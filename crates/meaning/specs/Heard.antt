@@ -7,10 +7,10 @@ use lib.Dec.{eqb}
 use Rattle.meaning.specs.Names.{Name, key, same}
 use Rattle.meaning.specs.Waiting.{Waiter, Found, seek, entryOf, without}
 use Rattle.meaning.specs.Waiting.Found.{nobody, at}
-use Rattle.meaning.specs.Line.{Reply, Ask, Finish, Exchange}
-use Rattle.meaning.specs.Line.Reply.{done, refused}
-use Rattle.meaning.specs.Line.Ask.{granted, delayed}
-use Rattle.meaning.specs.Line.Exchange.{asked, finished, withdrew}
+use Rattle.meaning.specs.Calls.{Reply, Ask, Finish, Exchange}
+use Rattle.meaning.specs.Calls.Reply.{done, refused}
+use Rattle.meaning.specs.Calls.Ask.{granted, delayed}
+use Rattle.meaning.specs.Calls.Exchange.{asked, finished, withdrew}
 
 -- the names of the asks that were granted or delayed; the grants in order; the names of what was withdrawn; the terminals
 -- that were granted and have not finished; and those that were delayed and since neither granted nor withdrawn, with what

@@ -6,6 +6,7 @@ pub mod Positions
 pub mod Following
 pub mod Rewriting
 pub mod Waiting
+pub mod Calls
 pub mod Line
 pub mod Heard
 pub mod Promises

@@ -9,38 +9,17 @@ use lib.ListN.{length}
 use Rattle.meaning.specs.Names.{Name, key}
 use Rattle.meaning.specs.Waiting.{Waiter, Found, seek, entryOf, joined, without, examined}
 use Rattle.meaning.specs.Waiting.Found.{nobody, at}
+use Rattle.meaning.specs.Calls.{Call, Reply, Ask, Finish, Exchange}
+use Rattle.meaning.specs.Calls.Call.{ask, finish, withdraw}
+use Rattle.meaning.specs.Calls.Reply.{done, refused}
+use Rattle.meaning.specs.Calls.Ask.{granted, delayed}
+use Rattle.meaning.specs.Calls.Exchange.{asked, finished, withdrew}
 
 -- the names granted, oldest first; the running terminal, or none where the line is free; who waits for what
 pub record Line : Type 0 where
   pub history : List Name
   pub running : Option ℕ
   pub waiting : List Waiter
-
-pub data Call : Type 0 where
-  ask : ℕ → Name → Call
-  finish : ℕ → Call
-  withdraw : ℕ → Call
-
--- what was asked for is done, with a value, or the call is refused, with a number
-pub data Reply (A : Type 0) : Type 0 where
-  done : A → Reply A
-  refused : ℕ → Reply A
-
--- "reply granted", "reply delayed with the number of entries ahead"
-pub data Ask : Type 0 where
-  granted : Ask
-  delayed : ℕ → Ask
-
--- "the number of entries examined", and "the granted terminal and operation, if any"
-pub record Finish : Type 0 where
-  pub examined : ℕ
-  pub handed : Option Waiter
-
--- a call with its reply; a withdrawal's is "the place it had, from 0"
-pub data Exchange : Type 0 where
-  asked : ℕ → Name → Reply Ask → Exchange
-  finished : ℕ → Reply Finish → Exchange
-  withdrew : ℕ → Reply ℕ → Exchange
 
 abbrev pub runs : Option ℕ → ℕ → Bool
 runs none t = false

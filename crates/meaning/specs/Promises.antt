@@ -5,19 +5,27 @@ use mathlib.Core.List.{List, [], _∷_, _++_, map, List·Memᴰ}
 use mathlib.Core.Logic.{_↔_, _≢_}
 use mathlib.Core.Option.{Option, some, none}
 use Prim.Native.Nat.{ℕ, _+_, _≤_, _<_, _^_}
-use lib.ListN.{length}
+use lib.ListN.{length, getD}
 use Rattle.meaning.specs.Names.{Name, key}
 use Rattle.meaning.specs.Words.{Expr, Word, Begins, names}
 use Rattle.meaning.specs.Positions.{size, rows, permission, start}
 use Rattle.meaning.specs.Following.{Walk, setAfter, permits}
 use Rattle.meaning.specs.Rewriting.{Rewritten}
-use Rattle.meaning.specs.Waiting.{Waiter, Found, namesOf, seek}
+use Rattle.meaning.specs.Waiting.{Waiter, Found, namesOf, seek, examined}
 use Rattle.meaning.specs.Waiting.Found.{nobody, at}
-use Rattle.meaning.specs.Line.{Line, Call, Reply, Finish, Exchange, opening, step, talk, after}
-use Rattle.meaning.specs.Line.Call.{ask, finish, withdraw}
-use Rattle.meaning.specs.Line.Reply.{done, refused}
-use Rattle.meaning.specs.Line.Exchange.{asked, finished, withdrew}
+use Rattle.meaning.specs.Calls.{Call, Reply, Finish, Exchange}
+use Rattle.meaning.specs.Line.{Line, opening, step, talk, after}
+use Rattle.meaning.specs.Calls.Call.{ask, finish, withdraw}
+use Rattle.meaning.specs.Calls.Reply.{done, refused}
+use Rattle.meaning.specs.Calls.Exchange.{asked, finished, withdrew}
 use Rattle.meaning.specs.Heard.{Account, account, count}
+
+-- "the empty history is always permitted", and so is each beginning of a permitted one
+abbrev pub Empty-begins : Type 0
+Empty-begins = (e : Expr) → Begins e []
+
+abbrev pub Beginning-begins : Type 0
+Beginning-begins = (e : Expr) (h g : List Name) → Begins e (h ++ g) → Begins e h
 
 -- a walk through positions spells a history exactly if the history begins a repetition
 abbrev pub Walk-begins : Type 0
@@ -38,6 +46,21 @@ Every-name-occurs = (e : Expr) (n : Name) → List·Memᴰ n (names e) → (h : 
 -- and no other name stands in one
 abbrev pub No-other-name-occurs : Type 0
 No-other-name-occurs = (e : Expr) (h : List Name) (k : Name) → Begins e h → List·Memᴰ k h → List·Memᴰ k (map key (names e))
+
+-- so expressions that permit the same histories have the same names
+abbrev pub Same-begins-same-names : Type 0
+Same-begins-same-names =
+    (x y : Expr) → ((h : List Name) → Begins x h ↔ Begins y h)
+    → (k : Name) → List·Memᴰ k (map key (names x)) ↔ List·Memᴰ k (map key (names y))
+
+-- the sets of an expression of at most n positions are n-bit numbers
+pub record Fit (n : ℕ) (e : Expr) : Type 0 where
+  pub start-fits : start e < 2 ^ n
+  pub rows-fit : (p : ℕ) → getD (rows e) p 0 < 2 ^ n
+  pub permissions-fit : (k : Name) → permission e k < 2 ^ n
+
+abbrev pub Sets-fit : Type 0
+Sets-fit = (n : ℕ) (e : Expr) → size e ≤ n → Fit n e
 
 -- the rewritings keep the words, and so the permitted histories
 abbrev pub Rewriting-keeps-words : Type 0
@@ -84,19 +107,24 @@ Waiters-are-the-list =
     → account (talk permitted known opening cs) .waiters ≡ after permitted known opening cs .waiting
 
 -- the longest waiting whose name is permitted after the grants so far, if there is one
+unfoldable pub longest : (List Name → Bool) → Account → Found
+longest permitted a = seek (λ w. permitted (namesOf (a .grants) ++ w .name ∷ [])) (a .waiters)
+
 abbrev pub entryFound : Found → Option Waiter
 entryFound nobody = none
 entryFound (at p w) = some w
 
-unfoldable pub longest : (List Name → Bool) → Account → Option Waiter
-longest permitted a = entryFound (seek (λ w. permitted (namesOf (a .grants) ++ w .name ∷ [])) (a .waiters))
+-- a finish, where it is not refused, grants the longest waiting that then is permitted, and nobody where there is none; its
+-- count is "the place of the granted entry plus 1, or the whole count"
+pub record Grants-longest (permitted : List Name → Bool) (a : Account) (f : Finish) : Type 0 where
+  pub grants : f .handed ≡ entryFound (longest permitted a)
+  pub counts : f .examined ≡ examined (a .waiters) (longest permitted a)
 
--- "a finish grants the longest waiting that then is [permitted]", and nobody where there is none
 abbrev pub Finish-grants-longest : Type 0
 Finish-grants-longest =
     (permitted : List Name → Bool) (known : Name → Bool) (cs : List Call) (t : ℕ) (f : Finish)
     → step permitted known (after permitted known opening cs) (finish t) .0 ≡ finished t (done f)
-    → f .handed ≡ longest permitted (account (talk permitted known opening cs))
+    → Grants-longest permitted (account (talk permitted known opening cs)) f
 
 -- the exchanges of one more call
 abbrev pub Talk-goes-on : Type 0

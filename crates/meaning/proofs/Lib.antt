@@ -1,0 +1,19 @@
+-- Proofs of what specs/Promises.antt promises, lowest first.
+pub mod NameLaws
+pub mod SetLaws
+pub mod WordLaws
+pub mod Beginnings
+pub mod Rests
+pub mod Onward
+pub mod Walks
+pub mod Heart
+pub mod Fitting
+pub mod Samples
+pub mod Occurring
+pub mod Rewritings
+pub mod WaitingLaws
+pub mod HeardCounts
+pub mod LineWays
+pub mod LineTalk
+pub mod HeardSteps
+pub mod LineOrderly

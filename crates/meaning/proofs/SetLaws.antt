@@ -1,0 +1,225 @@
+-- The laws of sets of positions: who is a member of the empty set, a single position, a union, what two sets share, and a
+-- union of rows; sets with the same members are equal; a set that is not empty has a member. By induction on the place,
+-- halving the set.
+use mathlib.Core.Path.{_≡_, refl, sym, ap, ap₂, _∙_}
+use mathlib.Core.Logic.{_↔_, _≢_, _⊎_, inl, inr, ⊎-elim}
+use mathlib.Core.List.{List, [], _∷_}
+use mathlib.Core.Bool.{Bool, true, false, cond, _||_, _&&_, false≢true, true≢false}
+use Prim.Native.Nat.{ℕ, zero, suc, _+_, _*_, _<_, _≤_, _/_, _%_, _^_, min, max}
+use native.Mathlib.Nat.{not-suc-le-zero, le-of-suc-le-suc, pow-suc, pow-zero}
+use native.Mathlib.Omega.{arith}
+use borrow.Author.Tests.{eqb-true, eqb-false, eq-eqb, ltb-true, ltb-false}
+use lib.ListN.{length, getD}
+use lib.Dec.{eqb, ltb, eqb·zero-suc, eqb·suc-zero, eqb·suc-suc}
+use lib.Bits.{bitOr, bitAnd, or-step, and-step, or-lt}
+use lib.Pow.{pow-pos}
+use Rattle.meaning.specs.Sets.{mem, In, unionOf}
+
+-- the empty set has no member
+pub mem-none : (p : ℕ) → mem p 0 ≡ false
+unfolding mem
+mem-none zero = refl
+mem-none (suc p) = mem-none p
+
+pub none-in : {A : Type 0} (p : ℕ) → In p 0 → A
+none-in p h = absurd (false≢true (sym (mem-none p) ∙ h))
+
+half-double : (n : ℕ) → n * 2 / 2 ≡ n
+half-double n = omega arith
+
+double-even : (n : ℕ) → n * 2 % 2 ≡ 0
+double-even n = omega arith
+
+-- a single position is its own member, and no other is
+pub mem-single : (p q : ℕ) → mem p (2 ^ q) ≡ eqb p q
+unfolding mem
+mem-single zero zero = refl
+mem-single zero (suc q) = rw (pow-suc, double-even) (sym (eqb·zero-suc q))
+mem-single (suc p) zero = mem-none p ∙ sym (eqb·suc-zero p)
+mem-single (suc p) (suc q) = rw (pow-suc, half-double) (mem-single p q ∙ sym (eqb·suc-suc p q))
+
+pub in-single : (p q : ℕ) → In p (2 ^ q) ↔ (p ≡ q)
+in-single p q = (λ h. eqb-true p q (sym (mem-single p q) ∙ h), λ h. mem-single p q ∙ eq-eqb p q h)
+
+-- unions, and what two sets share
+or-half : (a b : ℕ) → bitOr a b / 2 ≡ bitOr (a / 2) (b / 2)
+or-half a b =
+    let h : max (a % 2) (b % 2) < 2 = omega arith in
+    omega (arith, or-step a b)
+
+or-odd : (a b : ℕ) → bitOr a b % 2 ≡ max (a % 2) (b % 2)
+or-odd a b =
+    let h : max (a % 2) (b % 2) < 2 = omega arith in
+    omega (arith, or-step a b)
+
+and-half : (a b : ℕ) → bitAnd a b / 2 ≡ bitAnd (a / 2) (b / 2)
+and-half a b =
+    let h : min (a % 2) (b % 2) < 2 = omega arith in
+    omega (arith, and-step a b)
+
+and-odd : (a b : ℕ) → bitAnd a b % 2 ≡ min (a % 2) (b % 2)
+and-odd a b =
+    let h : min (a % 2) (b % 2) < 2 = omega arith in
+    omega (arith, and-step a b)
+
+-- of two digits, the larger is 1 where one of them is, and the smaller where both are
+module _ (f : ℕ → ℕ → ℕ) (g : Bool → Bool → Bool)
+    (at00 : eqb (f 0 0) 1 ≡ g false false) (at01 : eqb (f 0 1) 1 ≡ g false true)
+    (at10 : eqb (f 1 0) 1 ≡ g true false) (at11 : eqb (f 1 1) 1 ≡ g true true) where
+  digits : (a b : ℕ) → a < 2 → b < 2 → eqb (f a b) 1 ≡ g (eqb a 1) (eqb b 1)
+  digits zero zero h k = at00
+  digits zero (suc zero) h k = at01
+  digits (suc zero) zero h k = at10
+  digits (suc zero) (suc zero) h k = at11
+  digits zero (suc (suc b)) h k = absurd (omega arith)
+  digits (suc zero) (suc (suc b)) h k = absurd (omega arith)
+  digits (suc (suc a)) zero h k = absurd (omega arith)
+  digits (suc (suc a)) (suc zero) h k = absurd (omega arith)
+  digits (suc (suc a)) (suc (suc b)) h k = absurd (omega arith)
+
+pub mem-union : (p a b : ℕ) → mem p (bitOr a b) ≡ mem p a || mem p b
+unfolding mem
+mem-union zero a b =
+    ap (λ (n : ℕ). eqb n 1) (or-odd a b) ∙ digits max _||_ refl refl refl refl (a % 2) (b % 2) (omega arith) (omega arith)
+mem-union (suc p) a b = ap (mem p) (or-half a b) ∙ mem-union p (a / 2) (b / 2)
+
+pub mem-shared : (p a b : ℕ) → mem p (bitAnd a b) ≡ mem p a && mem p b
+unfolding mem
+mem-shared zero a b =
+    ap (λ (n : ℕ). eqb n 1) (and-odd a b) ∙ digits min _&&_ refl refl refl refl (a % 2) (b % 2) (omega arith) (omega arith)
+mem-shared (suc p) a b = ap (mem p) (and-half a b) ∙ mem-shared p (a / 2) (b / 2)
+
+pub either-true : (a b : Bool) → (a || b ≡ true) ↔ ((a ≡ true) ⊎ (b ≡ true))
+either-true true b = (λ h. inl refl, λ h. refl)
+either-true false b = (inr, ⊎-elim (λ h. absurd (false≢true h)) (λ h. h))
+
+pub both-true : (a b : Bool) → (a && b ≡ true) ↔ ((a ≡ true) × (b ≡ true))
+both-true true b = (λ h. (refl, h), λ h. h .1)
+both-true false b = (λ h. absurd (false≢true h), λ h. h .0)
+
+pub in-union : (p a b : ℕ) → In p (bitOr a b) ↔ (In p a ⊎ In p b)
+in-union p a b = rw (mem-union p a b) (either-true (mem p a) (mem p b))
+
+pub in-shared : (p a b : ℕ) → In p (bitAnd a b) ↔ (In p a × In p b)
+in-shared p a b = rw (mem-shared p a b) (both-true (mem p a) (mem p b))
+
+-- s where t holds, else none
+pub in-cond : (t : Bool) (p s : ℕ) → In p (cond t s 0) ↔ ((t ≡ true) × In p s)
+in-cond true p s = (λ h. (refl, h), λ h. h .1)
+in-cond false p s = (none-in p, λ h. absurd (false≢true (h .0)))
+
+-- a set joined with another where t holds
+pub in-joined : (t : Bool) (p x y : ℕ) → In p (cond t (bitOr x y) x) ↔ (In p x ⊎ ((t ≡ true) × In p y))
+in-joined true p x y =
+    (λ h. ⊎-elim inl (λ k. inr (refl, k)) (in-union p x y .0 h), λ h. in-union p x y .1 (⊎-elim inl (λ k. inr (k .1)) h))
+in-joined false p x y = (inl, ⊎-elim (λ h. h) (λ k. absurd (false≢true (k .0))))
+
+pub in-joined-left : (t : Bool) (p x y : ℕ) → In p (cond t (bitOr x y) y) ↔ (((t ≡ true) × In p x) ⊎ In p y)
+in-joined-left true p x y =
+    (λ h. ⊎-elim (λ k. inl (refl, k)) inr (in-union p x y .0 h), λ h. in-union p x y .1 (⊎-elim (λ k. inl (k .1)) inr h))
+in-joined-left false p x y = (inr, ⊎-elim (λ k. absurd (false≢true (k .0))) (λ h. h))
+
+-- sets with the same members are equal
+odd-by-member : (a b : ℕ) → a < 2 → b < 2 → eqb a 1 ≡ eqb b 1 → a ≡ b
+odd-by-member zero zero h k e = refl
+odd-by-member (suc zero) (suc zero) h k e = refl
+odd-by-member zero (suc zero) h k e = absurd (false≢true e)
+odd-by-member (suc zero) zero h k e = absurd (true≢false e)
+odd-by-member zero (suc (suc b)) h k e = absurd (omega arith)
+odd-by-member (suc zero) (suc (suc b)) h k e = absurd (omega arith)
+odd-by-member (suc (suc a)) zero h k e = absurd (omega arith)
+odd-by-member (suc (suc a)) (suc zero) h k e = absurd (omega arith)
+odd-by-member (suc (suc a)) (suc (suc b)) h k e = absurd (omega arith)
+
+same-up-to : (k a b : ℕ) → a ≤ k → b ≤ k → ((p : ℕ) → mem p a ≡ mem p b) → a ≡ b
+unfolding mem
+same-up-to zero a b ha hb e = omega arith
+same-up-to (suc k) a b ha hb e =
+    let low : a % 2 ≡ b % 2 = odd-by-member (a % 2) (b % 2) (omega arith) (omega arith) (e 0) in
+    let high : a / 2 ≡ b / 2 = same-up-to k (a / 2) (b / 2) (omega arith) (omega arith) (λ p. e (suc p)) in
+    omega arith
+
+pub same-members : (a b : ℕ) → ((p : ℕ) → mem p a ≡ mem p b) → a ≡ b
+same-members a b e = same-up-to (a + b) a b (omega arith) (omega arith) e
+
+-- a set below 2 ^ k has members below k only
+pub mem-beyond : (p k s : ℕ) → s < 2 ^ k → k ≤ p → mem p s ≡ false
+unfolding mem
+mem-beyond p zero s h l =
+    let e : s ≡ 0 = omega (arith, pow-zero 2) in
+    rw e (mem-none p)
+mem-beyond zero (suc k) s h l = absurd (not-suc-le-zero l)
+mem-beyond (suc p) (suc k) s h l =
+    let d : s < 2 ^ k * 2 = rw pow-suc at h in
+    mem-beyond p k (s / 2) (omega arith) (le-of-suc-le-suc l)
+
+pub below-or-not : (p k : ℕ) → (p < k) ⊎ (k ≤ p)
+below-or-not p k = go (ltb p k) refl
+  where
+    go : (t : Bool) → ltb p k ≡ t → (p < k) ⊎ (k ≤ p)
+    go true e = inl (ltb-true p k e)
+    go false e = inr (ltb-false p k e)
+
+pub in-below : (p k s : ℕ) → s < 2 ^ k → In p s → p < k
+in-below p k s h m = go (below-or-not p k)
+  where
+    go : (p < k) ⊎ (k ≤ p) → p < k
+    go (inl l) = l
+    go (inr l) = absurd (false≢true (sym (mem-beyond p k s h l) ∙ m))
+
+-- two sets below 2 ^ k with the same members below k are equal
+pub same-members-below : (k a b : ℕ) → a < 2 ^ k → b < 2 ^ k → ((p : ℕ) → p < k → mem p a ≡ mem p b) → a ≡ b
+same-members-below k a b ha hb e = same-members a b (λ p. go p (below-or-not p k))
+  where
+    go : (p : ℕ) → (p < k) ⊎ (k ≤ p) → mem p a ≡ mem p b
+    go p (inl l) = e p l
+    go p (inr l) = mem-beyond p k a ha l ∙ sym (mem-beyond p k b hb l)
+
+-- a set that is not empty has a member
+member-up-to : (k s : ℕ) → s ≤ k → s ≢ 0 → (p : ℕ) × In p s
+unfolding mem
+member-up-to zero s l h = absurd (h (omega arith))
+member-up-to (suc k) s l h = go (λ n. member-up-to k (s / 2) (omega arith) n) (eqb (s % 2) 1) refl
+  where
+    go : (s / 2 ≢ 0 → (p : ℕ) × In p (s / 2)) → (t : Bool) → eqb (s % 2) 1 ≡ t → (p : ℕ) × In p s
+    go m true e = (0, e)
+    go m false e =
+        let n : s % 2 ≢ 1 = eqb-false (s % 2) 1 e in
+        let i = m (omega arith) in
+        (suc (i .0), i .1)
+
+pub member : (s : ℕ) → s ≢ 0 → (p : ℕ) × In p s
+member s h = member-up-to s s (omega arith) h
+
+pub member-not-none : (p s : ℕ) → In p s → s ≢ 0
+member-not-none p s m e = none-in p (rw e at m)
+
+-- q is in the row of some place of s
+abbrev pub InRowOf : List ℕ → ℕ → ℕ → Type 0
+InRowOf rs s q = (p : ℕ) × (p < length rs) × In p s × In q (getD rs p 0)
+
+-- the members of a union of rows are those of the rows whose place is in the set
+pub in-union-of : (rs : List ℕ) (s q : ℕ) → In q (unionOf rs s) → InRowOf rs s q
+unfolding mem unionOf
+in-union-of [] s q h = none-in q h
+in-union-of (r ∷ rs) s q h =
+    ⊎-elim
+    (λ here. let i = in-cond (mem 0 s) q r .0 here in (0, omega arith, i .0, i .1))
+    (λ there. let i = in-union-of rs (s / 2) q there in (suc (i .0), omega arith, i .2, i .3))
+    (in-union q (cond (mem 0 s) r 0) (unionOf rs (s / 2)) .0 h)
+
+pub union-of-in : (rs : List ℕ) (s q p : ℕ) → p < length rs → In p s → In q (getD rs p 0) → In q (unionOf rs s)
+unfolding mem unionOf
+union-of-in [] s q p l m h = absurd (not-suc-le-zero l)
+union-of-in (r ∷ rs) s q zero l m h =
+    in-union q (cond (mem 0 s) r 0) (unionOf rs (s / 2)) .1 (inl (in-cond (mem 0 s) q r .1 (m, h)))
+union-of-in (r ∷ rs) s q (suc p) l m h =
+    in-union q (cond (mem 0 s) r 0) (unionOf rs (s / 2)) .1 (inr (union-of-in rs (s / 2) q p (le-of-suc-le-suc l) m h))
+
+-- no row of the empty set
+pub union-of-none : (rs : List ℕ) → unionOf rs 0 ≡ 0
+union-of-none rs = same-members (unionOf rs 0) 0 (λ q. go q (mem q (unionOf rs 0)) refl)
+  where
+    go : (q : ℕ) (t : Bool) → mem q (unionOf rs 0) ≡ t → mem q (unionOf rs 0) ≡ mem q 0
+    go q true e = none-in (in-union-of rs 0 q e .0) (in-union-of rs 0 q e .2)
+    go q false e = e ∙ sym (mem-none q)
