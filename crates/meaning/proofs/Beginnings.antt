@@ -1,7 +1,6 @@
 -- The empty history and each beginning of a permitted history are permitted: the rest of the history is part of what completes it.
-use mathlib.Core.Path.{_≡_, refl}
-use mathlib.Core.List.{List, [], _++_, append-assoc}
-use Rattle.meaning.specs.Names.{Name}
+use mathlib.Core.Path.{refl}
+use mathlib.Core.List.{[], _++_, append-assoc}
 use Rattle.meaning.specs.Words.{Word}
 use Rattle.meaning.specs.Words.Repeated.{none}
 use Rattle.meaning.specs.Promises.{Empty-begins, Beginning-begins}

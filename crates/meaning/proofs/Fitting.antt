@@ -4,7 +4,7 @@ use mathlib.Core.Bool.{Bool, true, false, cond}
 use mathlib.Core.Logic.{_⊎_, inl, inr}
 use Prim.Native.Nat.{ℕ, _+_, _≤_, _<_, _^_}
 use native.Mathlib.Omega.{arith}
-use lib.Bits.{bitOr, or-lt}
+use lib.Bits.{or-lt}
 use lib.Pow.{pow-pos, pow-lt}
 use lib.ListN.{getD, List·getD-eq-default}
 use Rattle.meaning.specs.Names.{Name, key, same}
@@ -12,7 +12,7 @@ use Rattle.meaning.specs.Words.{Expr}
 use Rattle.meaning.specs.Words.Expr.{name, seq, choice, star}
 use Rattle.meaning.specs.Sets.{mem}
 use Rattle.meaning.specs.Positions.{size, canBeEmpty, first, last, follows, positionsOf, row, rows, start, permission}
-use Rattle.meaning.specs.Promises.{Fit, Sets-fit}
+use Rattle.meaning.specs.Promises.{Sets-fit}
 use Rattle.meaning.proofs.SetLaws.{below-or-not}
 use Rattle.meaning.proofs.Heart.{length-rows, row-at}
 

@@ -2,20 +2,19 @@
 -- the position rules permits, and the set that it keeps is then not empty. A history is followed name by name through the
 -- rests (`Onward`), and since every rest can be completed, each walk is the beginning of a word.
 use mathlib.Core.Path.{_≡_, refl, sym, ap, _∙_}
-use mathlib.Core.Logic.{_↔_, _≢_, _⊎_, inl, inr, ⊎-elim}
-use mathlib.Core.Bool.{Bool, true, false}
+use mathlib.Core.Logic.{_≢_, inl, inr, ⊎-elim}
 use mathlib.Core.List.{List, [], _∷_, _++_, cons≢nil, head-eq-of-cons-eq, tail-eq-of-cons-eq, append-ne-nil-of-right-ne-nil}
-use Prim.Native.Nat.{ℕ, zero, suc, _+_, _<_, _≤_}
-use native.Mathlib.Nat.{not-suc-le-zero, le-of-suc-le-suc, zero-add, add-zero, suc-add, add-suc}
+use Prim.Native.Nat.{ℕ, zero, suc, _+_, _<_}
+use native.Mathlib.Nat.{not-suc-le-zero, le-of-suc-le-suc, zero-add, add-zero}
 use native.Mathlib.Omega.{arith}
 use lib.ListN.{length, getD}
 use Rattle.meaning.specs.Names.{Name}
-use Rattle.meaning.specs.Words.{Expr, Repeated, Word, Begins}
+use Rattle.meaning.specs.Words.{Expr, Word, Begins}
 use Rattle.meaning.specs.Words.Expr.{name, seq, choice, star}
-use Rattle.meaning.specs.Words.Repeated.{none, more}
+use Rattle.meaning.specs.Words.Repeated.{none}
 use Rattle.meaning.specs.Sets.{In}
-use Rattle.meaning.specs.Positions.{size, canBeEmpty, first, follows, positionsOf, row, rowsFrom, rows, start, permission}
-use Rattle.meaning.specs.Following.{Walk, setAfter, permits}
+use Rattle.meaning.specs.Positions.{size, first, follows, positionsOf, row, rowsFrom, rows, start, permission}
+use Rattle.meaning.specs.Following.{Walk}
 use Rattle.meaning.specs.Promises.{Walk-begins, Set-begins, Permits-begins}
 use Rattle.meaning.proofs.SetLaws.{member-not-none}
 use Rattle.meaning.proofs.WordLaws.{repeated-once, some-word}
@@ -23,7 +22,7 @@ use Rattle.meaning.proofs.Rests.{Rest, Inside, which-part, positions-in
 use Rattle.meaning.proofs.Onward.{Goes, word-starts, starts-word, rest-continues, continues-rest}
 use Rattle.meaning.proofs.Walks.{permits-walk, walk-permits, kept-permits, permits-kept}
 
--- the list of rows has the row of each place
+-- the list of rows has the row of each bit
 length-rows-from : (e : Expr) (n p : ℕ) → length (rowsFrom e n p) ≡ n
 unfolding rowsFrom
 length-rows-from e zero p = refl

@@ -14,7 +14,7 @@ use Rattle.meaning.specs.Calls.Call.{finish}
 use Rattle.meaning.specs.Calls.Reply.{done}
 use Rattle.meaning.specs.Calls.Exchange.{finished}
 use Rattle.meaning.specs.Heard.{Account, nothing, hear, hearAll, account, count}
-use Rattle.meaning.specs.Promises.{Orderly, entryFound, longest, Line-is-orderly, Waiters-are-the-list, Finish-grants-longest}
+use Rattle.meaning.specs.Promises.{Orderly, entryFound, longest, unfinishedIn, lineOf, Line-is-orderly, Line-is-heard, Finish-grants-longest}
 use Rattle.meaning.proofs.LineWays.{Way, way}
 use Rattle.meaning.proofs.LineWays.Way.{ask-refused, finish-refused, withdraw-refused, ask-granted, ask-delayed, finish-frees, finish-hands, withdrawn}
 use Rattle.meaning.proofs.HeardSteps.{runners, Heard, way-heard}
@@ -35,6 +35,13 @@ heard-orderly permitted l a h e =
       nobody-permitted-waits = rw (h .same-grants, h .same-unfinished, h .same-waiters) (λ i. h .settled (none-run (l .running) i));
       conserved = rw (h .same-grants, h .same-waiters) (h .conserved);
     }
+
+unfinished-runs : (r : Option ℕ) → unfinishedIn (runners r) ≡ r
+unfinished-runs none = refl
+unfinished-runs (some t) = refl
+
+heard-line : (permitted : List Name → Bool) (l : Line) (a : Account) → Heard permitted l a → l ≡ lineOf a
+heard-line permitted l a h = rw (h .same-grants, h .same-unfinished, h .same-waiters, unfinished-runs (l .running))
 
 heard-longest : (permitted : List Name → Bool) (known : Name → Bool) (l : Line) (a : Account) → Heard permitted l a
     → longest permitted a ≡ picked permitted known l
@@ -82,8 +89,8 @@ module _ (permitted : List Name → Bool) (known : Name → Bool) where
 pub line-is-orderly : Line-is-orderly
 line-is-orderly permitted known e cs = heard-orderly permitted _ _ (account-heard permitted known cs) e
 
-pub waiters-are-the-list : Waiters-are-the-list
-waiters-are-the-list permitted known cs = account-heard permitted known cs .same-waiters
+pub line-is-heard : Line-is-heard
+line-is-heard permitted known cs = heard-line permitted (after permitted known opening cs) _ (account-heard permitted known cs)
 
 pub finish-grants-longest : Finish-grants-longest
 finish-grants-longest permitted known cs t f q =

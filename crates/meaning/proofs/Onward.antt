@@ -1,14 +1,14 @@
 -- The position rules are right, part by part: a word of e is empty or starts at a first position and goes on with a rest after
--- it; a rest after p is empty or goes on at a position that follows p. Both exactly, by induction on e; places keep the parts
--- of e apart.
+-- it; a rest after p is empty or goes on at a position that follows p. Both exactly, by induction on e; bits keep the parts of
+-- e apart.
 use mathlib.Core.Path.{_≡_, refl, sym, ap, _∙_}
 use mathlib.Core.Logic.{_⊎_, inl, inr, ⊎-elim}
-use mathlib.Core.Bool.{Bool, true, false, _&&_, _||_, false≢true}
+use mathlib.Core.Bool.{Bool, true, false≢true}
 use mathlib.Core.List.{List, [], _∷_, _++_, cons≢nil}
 use Prim.Native.Nat.{ℕ, _+_, _^_}
 use lib.Bits.{bitOr}
 use Rattle.meaning.specs.Names.{Name, key, same}
-use Rattle.meaning.specs.Words.{Expr, Repeated, Word}
+use Rattle.meaning.specs.Words.{Expr, Word}
 use Rattle.meaning.specs.Words.Expr.{name, seq, choice, star}
 use Rattle.meaning.specs.Words.Repeated.{none, more}
 use Rattle.meaning.specs.Sets.{mem, In}
@@ -18,7 +18,7 @@ use Rattle.meaning.proofs.SetLaws.{none-in, in-single, in-union, in-con
 use Rattle.meaning.proofs.WordLaws.{repeated-opens}
 use Rattle.meaning.proofs.Rests.{Rest, Inside, apart, in-first-seq, in-last-seq, in-follows-seq, in-follows-star, first-inside, follows-inside, positions-inside, rest-inside}
 
--- w goes on with a name at a place of s, and a rest after it
+-- w goes on with a name at a bit of s, and a rest after it
 abbrev pub Goes : ℕ → (Name → ℕ) → (ℕ → List Name → Type 0) → List Name → Type 0
 Goes s pos R w = (k : Name) × (v : List Name) × (p : ℕ) × (w ≡ k ∷ v) × In p s × In p (pos k) × R p v
 
@@ -39,7 +39,7 @@ front v e d = e ∙ ap (λ (l : List Name). l ++ v) d
 onto : {w v v′ : List Name} {k : Name} → w ≡ k ∷ v → v ≡ v′ → w ≡ k ∷ v′
 onto {k = k} e d = e ∙ ap (λ (l : List Name). k ∷ l) d
 
--- of two cases, the one whose place is a place of the left part; of the right part
+-- of two cases, the one whose bit is one of the left part; of the right part
 left-only : {A B : Type 0} (lo m n p : ℕ) → Inside lo m p → (B → Inside (lo + m) n p) → A ⊎ B → A
 left-only lo m n p i f (inl a) = a
 left-only lo m n p i f (inr b) = apart lo m n p i (f b)

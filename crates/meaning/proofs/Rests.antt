@@ -1,8 +1,8 @@
--- What may still come in an expression after one of its positions, and the places at which its sets and rests lie.
-use mathlib.Core.Path.{_≡_, refl, sym}
+-- What may still come in an expression after one of its positions, and the bits at which its sets and rests lie.
+use mathlib.Core.Path.{_≡_}
 use mathlib.Core.Logic.{_⊎_, inl, inr, ⊎-elim, ⊎-map, _↔_}
-use mathlib.Core.Bool.{Bool, true, false, cond}
-use mathlib.Core.List.{List, [], _∷_, _++_}
+use mathlib.Core.Bool.{true, cond}
+use mathlib.Core.List.{List, [], _++_}
 use Prim.Native.Nat.{ℕ, _+_, _<_, _≤_, _^_}
 use native.Mathlib.Omega.{arith}
 use lib.Bits.{bitOr}
@@ -13,34 +13,34 @@ use Rattle.meaning.specs.Sets.{mem, In}
 use Rattle.meaning.specs.Positions.{size, canBeEmpty, first, last, follows, positionsOf}
 use Rattle.meaning.proofs.SetLaws.{below-or-not, none-in, in-single, in-union, in-cond, in-joined, in-joined-left}
 
--- w completes a word of e of which place p was spelled last; e's own places start at lo
+-- w completes a word of e of which bit p was spelled last; e's own bits start at lo
 unfoldable pub Rest : Expr → ℕ → ℕ → List Name → Type 0
 Rest (name n) lo p w = (p ≡ lo) × (w ≡ [])
 Rest (seq a b) lo p w = ((u v : List Name) × Rest a lo p u × Word b v × (w ≡ u ++ v)) ⊎ Rest b (lo + size a) p w
 Rest (choice a b) lo p w = Rest a lo p w ⊎ Rest b (lo + size a) p w
 Rest (star a) lo p w = (u v : List Name) × Rest a lo p u × Repeated (Word a) v × (w ≡ u ++ v)
 
--- p is one of n places from lo on
+-- p is one of n bits from lo on
 pub record Inside (lo n p : ℕ) : Type 0 where
   pub low : lo ≤ p
   pub high : p < lo + n
 
--- a place of the left part, and of the right part, is one of both
+-- a bit of the left part, and one of the right part, is one of the whole
 pub inside-left : (lo m n p : ℕ) → Inside lo m p → Inside lo (m + n) p
 inside-left lo m n p i = record { low = i .low; high = omega arith }
 
 pub inside-right : (lo m n p : ℕ) → Inside (lo + m) n p → Inside lo (m + n) p
 inside-right lo m n p i = record { low = omega arith; high = omega arith }
 
--- and no place is one of both parts
+-- and no bit is one of both parts
 pub apart : {A : Type 0} (lo m n p : ℕ) → Inside lo m p → Inside (lo + m) n p → A
 apart lo m n p i j = absurd (omega arith)
 
--- so a place of either part is one of the whole
+-- so a bit of either part is one of the whole
 either-inside : (lo m n p : ℕ) → Inside lo m p ⊎ Inside (lo + m) n p → Inside lo (m + n) p
 either-inside lo m n p = ⊎-elim (inside-left lo m n p) (inside-right lo m n p)
 
--- and a place of the whole is one of a part
+-- and a bit of the whole is one of a part
 pub which-part : (lo m n p : ℕ) → Inside lo (m + n) p → Inside lo m p ⊎ Inside (lo + m) n p
 which-part lo m n p i = go (below-or-not p (lo + m))
   where
@@ -48,8 +48,8 @@ which-part lo m n p i = go (below-or-not p (lo + m))
     go (inl l) = inl (record { low = i .low; high = l })
     go (inr l) = inr (record { low = l; high = omega arith })
 
-pub at-own-place : (lo p : ℕ) → p ≡ lo → Inside lo 1 p
-at-own-place lo p e = record { low = omega arith; high = omega arith }
+pub at-own-bit : (lo p : ℕ) → p ≡ lo → Inside lo 1 p
+at-own-bit lo p e = record { low = omega arith; high = omega arith }
 
 module _ (a b : Expr) (lo p : ℕ) where
   -- the first set, the last set and the followers of a sequence
@@ -90,10 +90,10 @@ in-follows-star a lo p q = (
     whole : In q (follows (star a) lo p) ↔ (In q (follows a lo p) ⊎ In q (cond (mem p (last a lo)) (first a lo) 0))
     whole = in-union q (follows a lo p) (cond (mem p (last a lo)) (first a lo) 0)
 
--- the first set, the followers, an operation's positions and the rests lie at the expression's own places
+-- the first set, the followers, an operation's positions and the rests lie at the expression's own bits
 pub first-inside : (e : Expr) (lo p : ℕ) → In p (first e lo) → Inside lo (size e) p
 unfolding first size
-first-inside (name n) lo p h = at-own-place lo p (in-single p lo .0 h)
+first-inside (name n) lo p h = at-own-bit lo p (in-single p lo .0 h)
 first-inside (seq a b) lo p h =
     either-inside lo (size a) (size b) p
     (⊎-map (first-inside a lo p) (λ i. first-inside b (lo + size a) p (i .1)) (in-first-seq a b lo p .0 h))
@@ -119,7 +119,7 @@ follows-inside (star a) lo p q h =
 
 pub positions-inside : (e : Expr) (lo p : ℕ) (k : Name) → In p (positionsOf e lo k) → Inside lo (size e) p
 unfolding positionsOf size
-positions-inside (name n) lo p k h = at-own-place lo p (in-single p lo .0 (in-cond (same (key n) k) p (2 ^ lo) .0 h .1))
+positions-inside (name n) lo p k h = at-own-bit lo p (in-single p lo .0 (in-cond (same (key n) k) p (2 ^ lo) .0 h .1))
 positions-inside (seq a b) lo p k h =
     either-inside lo (size a) (size b) p
     (⊎-map (positions-inside a lo p k) (positions-inside b (lo + size a) p k) (in-union p (positionsOf a lo k) (positionsOf b (lo + size a) k) .0 h))
@@ -130,7 +130,7 @@ positions-inside (star a) lo p k h = positions-inside a lo p k h
 
 pub rest-inside : (e : Expr) (lo p : ℕ) (w : List Name) → Rest e lo p w → Inside lo (size e) p
 unfolding Rest size
-rest-inside (name n) lo p w r = at-own-place lo p (r .0)
+rest-inside (name n) lo p w r = at-own-bit lo p (r .0)
 rest-inside (seq a b) lo p w r =
     either-inside lo (size a) (size b) p (⊎-map (λ l. rest-inside a lo p (l .0) (l .2)) (rest-inside b (lo + size a) p w) r)
 rest-inside (choice a b) lo p w r =

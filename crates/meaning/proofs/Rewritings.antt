@@ -1,11 +1,11 @@
 -- The rewritings keep the words: each rule does, words of a whole depend on the words of its parts only, and so a rule may be
 -- used at any place inside a path.
-use mathlib.Core.Path.{_≡_, refl, sym, ap, _∙_}
-use mathlib.Core.Logic.{_↔_, _⊎_, inl, inr, ⊎-elim, ⊎-map}
-use mathlib.Core.List.{List, [], _∷_, _++_, append-assoc}
+use mathlib.Core.Path.{refl, sym, ap, _∙_}
+use mathlib.Core.Logic.{inl, inr, ⊎-map}
+use mathlib.Core.List.{List, _++_, append-assoc}
 use Rattle.meaning.specs.Names.{Name}
 use Rattle.meaning.specs.Words.{Expr, Repeated, Word}
-use Rattle.meaning.specs.Words.Expr.{name, seq, choice, star}
+use Rattle.meaning.specs.Words.Expr.{seq, choice, star}
 use Rattle.meaning.specs.Words.Repeated.{none, more}
 use Rattle.meaning.specs.Rewriting.{Rule, Place, fill, Rewritten}
 use Rattle.meaning.specs.Rewriting.Rule.{factor-left, factor-right, exchange, repeat, regroup-seq, regroup-choice}

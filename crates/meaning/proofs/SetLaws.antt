@@ -1,7 +1,7 @@
 -- The laws of sets of positions: who is a member of the empty set, a single position, a union, what two sets share, and a
--- union of rows; sets with the same members are equal; a set that is not empty has a member. By induction on the place,
+-- union of rows; sets with the same members are equal; a set that is not empty has a member. By induction on the bit,
 -- halving the set.
-use mathlib.Core.Path.{_≡_, refl, sym, ap, ap₂, _∙_}
+use mathlib.Core.Path.{_≡_, refl, sym, ap, _∙_}
 use mathlib.Core.Logic.{_↔_, _≢_, _⊎_, inl, inr, ⊎-elim}
 use mathlib.Core.List.{List, [], _∷_}
 use mathlib.Core.Bool.{Bool, true, false, cond, _||_, _&&_, false≢true, true≢false}
@@ -11,8 +11,7 @@ use native.Mathlib.Omega.{arith}
 use borrow.Author.Tests.{eqb-true, eqb-false, eq-eqb, ltb-true, ltb-false}
 use lib.ListN.{length, getD}
 use lib.Dec.{eqb, ltb, eqb·zero-suc, eqb·suc-zero, eqb·suc-suc}
-use lib.Bits.{bitOr, bitAnd, or-step, and-step, or-lt}
-use lib.Pow.{pow-pos}
+use lib.Bits.{bitOr, bitAnd, or-step, and-step}
 use Rattle.meaning.specs.Sets.{mem, In, unionOf}
 
 -- the empty set has no member
@@ -194,11 +193,11 @@ member s h = member-up-to s s (omega arith) h
 pub member-not-none : (p s : ℕ) → In p s → s ≢ 0
 member-not-none p s m e = none-in p (rw e at m)
 
--- q is in the row of some place of s
+-- q is in the row of some member of s
 abbrev pub InRowOf : List ℕ → ℕ → ℕ → Type 0
 InRowOf rs s q = (p : ℕ) × (p < length rs) × In p s × In q (getD rs p 0)
 
--- the members of a union of rows are those of the rows whose place is in the set
+-- the members of a union of rows are those of the rows of its members
 pub in-union-of : (rs : List ℕ) (s q : ℕ) → In q (unionOf rs s) → InRowOf rs s q
 unfolding mem unionOf
 in-union-of [] s q h = none-in q h

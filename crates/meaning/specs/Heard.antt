@@ -5,9 +5,9 @@ use mathlib.Core.Option.{Option, some, none}
 use Prim.Native.Nat.{ℕ, suc}
 use lib.Dec.{eqb}
 use Rattle.meaning.specs.Names.{Name, key, same}
-use Rattle.meaning.specs.Waiting.{Waiter, Found, seek, entryOf, without}
+use Rattle.meaning.specs.Waiting.{Waiter, Found, entryOf, without}
 use Rattle.meaning.specs.Waiting.Found.{nobody, at}
-use Rattle.meaning.specs.Calls.{Reply, Ask, Finish, Exchange}
+use Rattle.meaning.specs.Calls.{Exchange}
 use Rattle.meaning.specs.Calls.Reply.{done, refused}
 use Rattle.meaning.specs.Calls.Ask.{granted, delayed}
 use Rattle.meaning.specs.Calls.Exchange.{asked, finished, withdrew}

@@ -1,5 +1,5 @@
 -- The position rules of document 01, "The table". An expression's positions are numbered from the left; `lo` is how many
--- stand before it, so its own are the places lo, lo + 1, ..
+-- stand before it, so its own are the bits lo, lo + 1, ..
 use mathlib.Core.Bool.{Bool, true, false, cond, _&&_, _||_}
 use mathlib.Core.List.{List, [], _∷_}
 use Prim.Native.Nat.{ℕ, zero, suc, _+_, _^_}
@@ -37,7 +37,7 @@ last (seq a b) lo = cond (canBeEmpty b) (bitOr (last a lo) (last b (lo + size a)
 last (choice a b) lo = bitOr (last a lo) (last b (lo + size a))
 last (star a) lo = last a lo
 
--- what follows place p: "every last position of the left is followed by every first position of the right", "every last
+-- what follows p: "every last position of the left is followed by every first position of the right", "every last
 -- position is followed by every first position of it"
 unfoldable pub follows : Expr → ℕ → ℕ → ℕ
 follows (name n) lo p = 0
@@ -57,7 +57,7 @@ positionsOf (star a) lo k = positionsOf a lo k
 unfoldable pub row : Expr → ℕ → ℕ
 row e p = bitOr (follows e 0 p) (cond (mem p (last e 0)) (first e 0) 0)
 
--- the rows of n places from p on
+-- the rows of n bits from p on
 unfoldable pub rowsFrom : Expr → ℕ → ℕ → List ℕ
 rowsFrom e zero p = []
 rowsFrom e (suc n) p = row e p ∷ rowsFrom e n (suc p)

@@ -15,7 +15,7 @@ use Rattle.meaning.specs.Waiting.{Waiter, Found, namesOf, seek, examined
 use Rattle.meaning.specs.Waiting.Found.{nobody, at}
 use Rattle.meaning.specs.Calls.{Call, Reply, Finish, Exchange}
 use Rattle.meaning.specs.Line.{Line, opening, step, talk, after}
-use Rattle.meaning.specs.Calls.Call.{ask, finish, withdraw}
+use Rattle.meaning.specs.Calls.Call.{finish}
 use Rattle.meaning.specs.Calls.Reply.{done, refused}
 use Rattle.meaning.specs.Calls.Exchange.{asked, finished, withdrew}
 use Rattle.meaning.specs.Heard.{Account, account, count}
@@ -100,11 +100,19 @@ Line-is-orderly =
     (permitted : List Name → Bool) (known : Name → Bool) → permitted [] ≡ true → (cs : List Call)
     → Orderly permitted (account (talk permitted known opening cs))
 
--- the present waiters, by calls and replies, are those of the list
-abbrev pub Waiters-are-the-list : Type 0
-Waiters-are-the-list =
+-- the line that calls and replies show: the names granted, the unfinished terminal, the waiters
+abbrev pub unfinishedIn : List ℕ → Option ℕ
+unfinishedIn [] = none
+unfinishedIn (t ∷ ts) = some t
+
+abbrev pub lineOf : Account → Line
+lineOf a = record { history = namesOf (a .grants); running = unfinishedIn (a .unfinished); waiting = a .waiters }
+
+-- calls and replies show all there is: the line after them holds nothing else, and its list is the present waiters
+abbrev pub Line-is-heard : Type 0
+Line-is-heard =
     (permitted : List Name → Bool) (known : Name → Bool) (cs : List Call)
-    → account (talk permitted known opening cs) .waiters ≡ after permitted known opening cs .waiting
+    → after permitted known opening cs ≡ lineOf (account (talk permitted known opening cs))
 
 -- the longest waiting whose name is permitted after the grants so far, if there is one
 unfoldable pub longest : (List Name → Bool) → Account → Found

@@ -1,7 +1,7 @@
 -- The four rewritings of document 001, section 5, anywhere inside a path, sequences and choices regrouped freely.
 use mathlib.Core.Path.{_≡_}
 use Rattle.meaning.specs.Words.{Expr}
-use Rattle.meaning.specs.Words.Expr.{name, seq, choice, star}
+use Rattle.meaning.specs.Words.Expr.{seq, choice, star}
 
 -- one rewriting of a whole expression, or one regrouping
 pub data Rule : Expr → Expr → Type 0 where

@@ -1,14 +1,14 @@
--- Sets of positions as numbers. "A set of positions is a 64-bit number in which position p is bit p - 1": a place counts
--- bits from 0, so place p stands for position p + 1. The empty set is 0, the set of place p alone 2 ^ p, the union `bitOr`
--- and what two sets share `bitAnd`, which are the program's own `|` and `&`.
+-- Sets of positions as numbers. "A set of positions is a 64-bit number in which position p is bit p - 1": all definitions
+-- here and beside this file speak of bits, counted from 0. The empty set is 0, bit p alone is 2 ^ p, a union is `bitOr` and
+-- what two sets share is `bitAnd`, the meaning of the program's own `|` and `&`.
 use mathlib.Core.Path.{_≡_}
-use mathlib.Core.Bool.{Bool, true, false, cond}
+use mathlib.Core.Bool.{Bool, true, cond}
 use mathlib.Core.List.{List, [], _∷_}
 use Prim.Native.Nat.{ℕ, zero, suc, _/_, _%_}
 use lib.Dec.{eqb}
 use lib.Bits.{bitOr}
 
--- place p is in s
+-- bit p is in s
 unfoldable pub mem : ℕ → ℕ → Bool
 mem zero s = eqb (s % 2) 1
 mem (suc p) s = mem p (s / 2)
@@ -16,7 +16,7 @@ mem (suc p) s = mem p (s / 2)
 abbrev pub In : ℕ → ℕ → Type 0
 In p s = mem p s ≡ true
 
--- "the union of the rows of its positions": of the rows in order, those whose place is in s
+-- "the union of the rows of its positions": of the rows in order, those whose bit is in s
 unfoldable pub unionOf : List ℕ → ℕ → ℕ
 unionOf [] s = 0
 unionOf (r ∷ rs) s = bitOr (cond (mem 0 s) r 0) (unionOf rs (s / 2))
