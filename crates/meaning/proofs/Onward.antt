@@ -3,7 +3,7 @@
 -- e apart.
 use mathlib.Core.Path.{_≡_, refl, sym, ap, _∙_}
 use mathlib.Core.Logic.{_⊎_, inl, inr, ⊎-elim}
-use mathlib.Core.Bool.{Bool, true, false≢true}
+use mathlib.Core.Bool.{Bool, true, false≢true, and-eq-true-iff}
 use mathlib.Core.List.{List, [], _∷_, _++_, cons≢nil}
 use Prim.Native.Nat.{ℕ, _+_, _^_}
 use lib.Bits.{bitOr}
@@ -14,7 +14,7 @@ use Rattle.meaning.specs.Words.Repeated.{none, more}
 use Rattle.meaning.specs.Sets.{mem, In}
 use Rattle.meaning.specs.Positions.{size, canBeEmpty, first, last, follows, positionsOf}
 use Rattle.meaning.proofs.NameLaws.{same-equal, same-self}
-use Rattle.meaning.proofs.SetLaws.{none-in, in-single, in-union, in-cond, either-true, both-true}
+use Rattle.meaning.proofs.SetLaws.{none-in, in-single, in-union, in-cond, either-true}
 use Rattle.meaning.proofs.WordLaws.{repeated-opens}
 use Rattle.meaning.proofs.Rests.{Rest, Inside, apart, in-first-seq, in-last-seq, in-follows-seq, in-follows-star, first-inside, follows-inside, positions-inside, rest-inside}
 
@@ -75,7 +75,7 @@ word-starts (name n) lo w e =
 word-starts (seq a b) lo w (u, v, wa, wb, e) =
     ⊎-elim
     (λ (ta, eu). ⊎-elim
-    (λ (tb, ev). inl (both-true (canBeEmpty a) (canBeEmpty b) .1 (ta, tb), front v e eu ∙ ev))
+    (λ (tb, ev). inl (and-eq-true-iff (canBeEmpty a) (canBeEmpty b) .1 (ta, tb), front v e eu ∙ ev))
     (λ (k, v′, p, ev, i, j, r).
     inr (k, v′, p, front v e eu ∙ ev, in-first-seq a b lo p .1 (inr (ta, i)), in-right a b lo p k j, inr r))
     (word-starts b (lo + size a) v wb))
@@ -108,7 +108,7 @@ starts-word (name n) lo w (inl (t, e)) = absurd (false≢true t)
 starts-word (name n) lo w (inr (k, v, p, e, i, j, r)) =
     onto e (r .1) ∙ ap (λ (m : Name). m ∷ []) (sym (same-equal (key n) k (in-cond (same (key n) k) p (2 ^ lo) .0 j .0)))
 starts-word (seq a b) lo w (inl (t, e)) =
-    let c = both-true (canBeEmpty a) (canBeEmpty b) .0 t in
+    let c = and-eq-true-iff (canBeEmpty a) (canBeEmpty b) .0 t in
     ([], [], starts-word a lo [] (inl (c .0, refl)), starts-word b (lo + size a) [] (inl (c .1, refl)), e)
 starts-word (seq a b) lo w (inr (k, v, p, e, i, j, inl (u, v′, ra, wb, d))) =
     let here = rest-inside a lo p u ra in

@@ -4,7 +4,7 @@
 use mathlib.Core.Path.{_≡_, refl, sym, ap, _∙_}
 use mathlib.Core.Logic.{_↔_, _≢_, _⊎_, inl, inr, ⊎-elim}
 use mathlib.Core.List.{List, [], _∷_}
-use mathlib.Core.Bool.{Bool, true, false, cond, _||_, _&&_, false≢true, true≢false}
+use mathlib.Core.Bool.{Bool, true, false, cond, _||_, _&&_, false≢true, and-eq-true-iff, true≢false}
 use Prim.Native.Nat.{ℕ, zero, suc, _+_, _*_, _<_, _≤_, _/_, _%_, _^_, min, max}
 use native.Mathlib.Nat.{not-suc-le-zero, le-of-suc-le-suc, pow-suc, pow-zero}
 use native.Mathlib.Omega.{arith}
@@ -92,15 +92,11 @@ pub either-true : (a b : Bool) → (a || b ≡ true) ↔ ((a ≡ true) ⊎ (b �
 either-true true b = (λ h. inl refl, λ h. refl)
 either-true false b = (inr, ⊎-elim (λ h. absurd (false≢true h)) (λ h. h))
 
-pub both-true : (a b : Bool) → (a && b ≡ true) ↔ ((a ≡ true) × (b ≡ true))
-both-true true b = (λ h. (refl, h), λ h. h .1)
-both-true false b = (λ h. absurd (false≢true h), λ h. h .0)
-
 pub in-union : (p a b : ℕ) → In p (bitOr a b) ↔ (In p a ⊎ In p b)
 in-union p a b = rw (mem-union p a b) (either-true (mem p a) (mem p b))
 
 pub in-shared : (p a b : ℕ) → In p (bitAnd a b) ↔ (In p a × In p b)
-in-shared p a b = rw (mem-shared p a b) (both-true (mem p a) (mem p b))
+in-shared p a b = rw (mem-shared p a b) (and-eq-true-iff (mem p a) (mem p b))
 
 -- s where t holds, else none
 pub in-cond : (t : Bool) (p s : ℕ) → In p (cond t s 0) ↔ ((t ≡ true) × In p s)

@@ -2,7 +2,7 @@
 -- all the positions at which a walk may be. By induction on the history.
 use mathlib.Core.Path.{_≡_, refl, sym, ap, _∙_}
 use mathlib.Core.Logic.{_≢_, _⊎_, inl, inr}
-use mathlib.Core.Bool.{true, not, false≢true}
+use mathlib.Core.Bool.{true, not, false≢true, and-eq-true-iff}
 use mathlib.Core.List.{List, [], _∷_}
 use Prim.Native.Nat.{ℕ, _<_, _≤_}
 use borrow.Author.Tests.{eq-eqb, ne-eqb}
@@ -12,7 +12,7 @@ use lib.ListN.{length, getD, List·getD-eq-default}
 use Rattle.meaning.specs.Names.{Name}
 use Rattle.meaning.specs.Sets.{In, unionOf}
 use Rattle.meaning.specs.Following.{Walk, setAfter, permits}
-use Rattle.meaning.proofs.SetLaws.{none-in, in-shared, both-true, member, member-not-none, below-or-not, in-union-of, union-of-in, union-of-none}
+use Rattle.meaning.proofs.SetLaws.{none-in, in-shared, member, member-not-none, below-or-not, in-union-of, union-of-in, union-of-none}
 
 -- the test "meets" says that something is shared
 pub meets-true : (m : ℕ) → not (eqb m 0) ≡ true → m ≢ 0
@@ -48,7 +48,7 @@ module _ (rows : List ℕ) (permission : Name → ℕ) where
   permits-walk s [] e = tt
   permits-walk s (k ∷ h) e =
       let m = bitAnd s (permission k) in
-      let c = both-true (not (eqb m 0)) (permits rows permission (unionOf rows m) h) .0 e in
+      let c = and-eq-true-iff (not (eqb m 0)) (permits rows permission (unionOf rows m) h) .0 e in
       let i = walk-out-of m h (meets-true m (c .0)) (permits-walk (unionOf rows m) h (c .1)) in
       let o = in-shared (i .0) s (permission k) .0 (i .1) in
       (i .0, o .0, o .1, i .2)
@@ -59,7 +59,7 @@ module _ (rows : List ℕ) (permission : Name → ℕ) where
   walk-permits s (k ∷ h) (p, i, j, t) =
       let m = bitAnd s (permission k) in
       let o = in-shared p s (permission k) .1 (i, j) in
-      both-true (not (eqb m 0)) (permits rows permission (unionOf rows m) h) .1
+      and-eq-true-iff (not (eqb m 0)) (permits rows permission (unionOf rows m) h) .1
       (true-meets m (member-not-none p m o), walk-permits (unionOf rows m) h (walk-into m p h o t))
 
   -- nothing is kept of the empty set
@@ -73,7 +73,7 @@ module _ (rows : List ℕ) (permission : Name → ℕ) where
   kept-permits s [] n = refl
   kept-permits s (k ∷ h) n =
       let m = bitAnd s (permission k) in
-      both-true (not (eqb m 0)) (permits rows permission (unionOf rows m) h) .1
+      and-eq-true-iff (not (eqb m 0)) (permits rows permission (unionOf rows m) h) .1
       (true-meets m (λ e. n (rw (e, union-of-none rows) (none-after h))), kept-permits (unionOf rows m) h n)
 
   -- where every position that an operation has is followed by another, a permitted history keeps a set that is not empty
@@ -83,7 +83,7 @@ module _ (rows : List ℕ) (permission : Name → ℕ) where
   permits-kept lively s [] n e = n
   permits-kept lively s (k ∷ h) n e =
       let m = bitAnd s (permission k) in
-      let c = both-true (not (eqb m 0)) (permits rows permission (unionOf rows m) h) .0 e in
+      let c = and-eq-true-iff (not (eqb m 0)) (permits rows permission (unionOf rows m) h) .0 e in
       let i = member m (meets-true m (c .0)) in
       let o = in-shared (i .0) s (permission k) .0 (i .1) in
       let j = member (getD rows (i .0) 0) (lively (i .0) k (o .1)) in

@@ -50,14 +50,14 @@ fn in_name(b: u8) -> bool
 fn blanks(s: &[u8]) -> usize
     ensures { λ r. ⌜ r ≡ span blankByte (now (s .entry)) ⌝ }
 {
-    let mut i = 0;
-    while i < s.len() {
-        if class(s[i]) != BLANK {
-            return i;
+    let mut k = 0;
+    while k < s.len() {
+        if class(s[k]) != BLANK {
+            return k;
         }
-        i += 1;
+        k += 1;
     }
-    i
+    k
 }
 
 // How many letters and digits the text starts with.

@@ -1,0 +1,117 @@
+-- `text::tokens::next` meets its contract: each `return` is one of the three ways of `Ways.antt`, with what the calls ensure
+-- put in. A span is within its list, so the parts of the slice are there and the sums fit.
+use mathlib.Core.Path.{sym, ap}
+use mathlib.Core.List.{List}
+use Prim.Native.Nat.{ℕ, _-_}
+use native.Mathlib.Omega.{arith}
+use borrow.Author.Needs.{needs}
+use borrow.Rule.Slice.PartAt.{part-to-end}
+use lib.ListN.{length, take, drop, length-drop}
+use lib.Seq.{length-take-le}
+use Rattle.text.specs.Tokens.{blankByte, nameByte}
+use Rattle.text.proofs.Spans.{span-within}
+use Rattle.text.proofs.Ways.{way-nothing, way-word, way-sign}
+use Rattle.text.proofs.tokens.next.Statement.{statement}
+use Rattle.text.proofs.tokens.next.Tie as tie
+
+-- the text, and what is left of it behind the blanks
+abbrev text : tie.After-blanks → List ℕ
+text c = c .before .before .args .s .now
+
+abbrev left : tie.After-blanks → List ℕ
+left c = take (length (text c) - c .blanks .result) (drop (c .blanks .result) (text c))
+
+blanks-requires : tie.Need-blanks-requires
+blanks-requires c κs = search needs
+
+sub-rest : tie.Need-sub-rest
+sub-rest c = omega (arith, span-within blankByte (text c))
+
+part-rest-start : tie.Need-part-rest-start
+part-rest-start c = omega (arith, span-within blankByte (text c))
+
+part-rest-end : tie.Need-part-rest-end
+part-rest-end c = search needs
+
+returns : tie.Need-returns
+returns c =
+    let b = c .before .before in
+    way-nothing _ _ (b .blanks .ensures) (left b) (part-to-end (text b) _) (c .if1 .taken)
+
+shared-slice-read-class : tie.Need-shared-slice-read-class
+shared-slice-read-class c = search needs
+
+class-requires : tie.Need-class-requires
+class-requires c κs = search needs
+
+run-requires : tie.Need-run-requires
+run-requires c κs = search needs
+
+slice-aggregate-word-token : tie.Need-slice-aggregate-word-token
+slice-aggregate-word-token c =
+    let b = c .before .before .before .before .before .before .before in
+    sym (length-take-le _ (left b) (omega (arith, span-within nameByte (left b), c .before .run .ensures)))
+
+word-token-requires : tie.Need-word-token-requires
+word-token-requires c κs = search needs
+
+add-t17 : tie.Need-add-t17
+add-t17 c =
+    let b = c .before .before .before .before .before .before .before .before in
+    let k = b .blanks .result in
+    omega (
+      arith,
+      span-within nameByte (left b),
+      span-within blankByte (text b),
+      ap length (part-to-end (text b) k),
+      length-drop k (text b),
+    )
+
+returns-2 : tie.Need-returns-2
+returns-2 c =
+    let l = c .before .before .before in
+    let b = l .before .before .before .before .before in
+    way-word _ _ (b .blanks .ensures) (left b) (l .before .class .result) _ _
+    (part-to-end (text b) _)
+    (omega arith)
+    (l .before .class .ensures)
+    (l .if2 .taken)
+    (c .before .before .run .ensures)
+    (c .word-token .ensures)
+
+sign-token-requires : tie.Need-sign-token-requires
+sign-token-requires c κs = search needs
+
+add-t9 : tie.Need-add-t9
+add-t9 c = search needs
+
+returns-3 : tie.Need-returns-3
+returns-3 c =
+    let l = c .before in
+    let b = l .before .before .before .before .before in
+    way-sign _ _ (b .blanks .ensures) (left b) (l .before .class .result) _
+    (part-to-end (text b) _)
+    (omega arith)
+    (l .before .class .ensures)
+    (l .if2 .left)
+    (c .sign-token .ensures)
+
+pub next-spec : {M : Type 1} → statement M
+next-spec =
+    tie.close
+    (tie.spec
+    blanks-requires
+    sub-rest
+    part-rest-start
+    part-rest-end
+    returns
+    shared-slice-read-class
+    class-requires
+    run-requires
+    slice-aggregate-word-token
+    word-token-requires
+    add-t17
+    returns-2
+    sign-token-requires
+    add-t9
+    returns-3)
