@@ -1,5 +1,5 @@
--- What the definitions compute: the readings of document 01 that concern the rules alone, and the errors that it expects. One list
--- of cases for each claim.
+-- What the definitions compute: the readings of document 01 that concern the rules alone, and the errors that it expects, one list
+-- of cases for each claim; and a rewriting inside a longer sum.
 use mathlib.Core.Path.{_≡_, refl}
 use mathlib.Core.Bool.{Bool, true, false}
 use mathlib.Core.List.{List, [], _∷_, map}
@@ -10,6 +10,10 @@ use Rattle.meaning.specs.Words.Expr.{name, seq, choice, star}
 use Rattle.meaning.specs.Sets.{mem, unionOf}
 use Rattle.meaning.specs.Positions.{size, canBeEmpty, first, last, follows, positionsOf, row, rowsFrom, rows, start, permission}
 use Rattle.meaning.specs.Following.{permits}
+use Rattle.meaning.specs.Rewriting.{fill, Rewritten}
+use Rattle.meaning.specs.Rewriting.Rule.{factor-left, regroup-choice}
+use Rattle.meaning.specs.Rewriting.Place.{here, right-of-choice}
+use Rattle.meaning.specs.Rewriting.Rewritten.{by, then}
 
 abbrev a : Name
 a = 97 ∷ []
@@ -82,3 +86,11 @@ questions =
 questions-are-answered : map (λ q. permits (rows (q .path)) (permission (q .path)) (start (q .path)) (q .history)) questions ≡ map (λ q. q .answer) questions
 unfolding questions key same mem unionOf size canBeEmpty first last follows positionsOf row rowsFrom rows start permission permits
 questions-are-answered = refl
+
+-- d + ab + ac, grouped from the left as it is read, rewritten inside the sum to d + a(b + c)
+rewritten-inside-a-sum : (x y z u : Expr) → Rewritten (choice (choice u (seq x y)) (seq x z)) (choice u (seq x (choice y z)))
+unfolding fill
+rewritten-inside-a-sum x y z u =
+    then _ (choice u (choice (seq x y) (seq x z))) _
+    (by here _ _ _ _ (regroup-choice u (seq x y) (seq x z)) refl refl)
+    (by (right-of-choice u here) _ _ _ _ (factor-left x y z) refl refl)

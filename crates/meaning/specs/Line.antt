@@ -39,9 +39,9 @@ grant l w ws = record { history = l .history ++ w .name ∷ []; running = some (
 
 -- ask; the tests in order: terminal above 63, no such operation, the running terminal, a waiting one, free and permitted
 abbrev pub askCase : Line → Waiter → Bool → Bool → Bool → Bool → Bool → Reply Ask × Line
-askCase l w true unknown runs waits goes = (refused 10, l)
-askCase l w false true runs waits goes = (refused 11, l)
-askCase l w false false true waits goes = (refused 12, l)
+askCase l w true unknown runner waiter goes = (refused 10, l)
+askCase l w false true runner waiter goes = (refused 11, l)
+askCase l w false false true waiter goes = (refused 12, l)
 askCase l w false false false true goes = (refused 13, l)
 askCase l w false false false false true = (done granted, grant l w (l .waiting))
 askCase l w false false false false false =
