@@ -2,6 +2,9 @@
 ghost use mathlib.Core.Path.{_≡_};
 ghost use Rattle.text.specs.Classes.{classOf};
 
+// The classes, as the table has them.
+pub const BAD: u8 = 0;
+
 pub const BLANK: u8 = 1;
 
 pub const LETTER: u8 = 2;
@@ -158,6 +161,6 @@ pub fn class(b: u8) -> u8
         let i = b as usize;
         CLASSES[i]
     } else {
-        0
+        BAD
     }
 }

@@ -74,7 +74,7 @@ fn run(s: &[u8]) -> usize
     i
 }
 
-// Two names are one.
+// The two names are one: their keys have the same bytes.
 pub fn same_name(m: &[u8], n: &[u8]) -> bool
     ensures { λ r. ⌜ r ≡ sameName (now (m .entry)) (now (n .entry)) ⌝ }
 {
@@ -108,7 +108,7 @@ fn word_token(w: &[u8]) -> Token
     Token::Name(n)
 }
 
-// The sign of a class.
+// The sign of a class; a class that is none of a sign is a bad byte here, a digit's too.
 fn sign_token(c: u8) -> Token
     ensures { λ r. ⌜ r ≡ signToken c ⌝ }
 {
