@@ -4,6 +4,7 @@ pub mod SetLaws
 pub mod WordLaws
 pub mod Beginnings
 pub mod Rests
+pub mod Numbering
 pub mod Onward
 pub mod Walks
 pub mod Heart
@@ -11,9 +12,3 @@ pub mod Fitting
 pub mod Samples
 pub mod Occurring
 pub mod Rewritings
-pub mod WaitingLaws
-pub mod HeardCounts
-pub mod LineWays
-pub mod LineTalk
-pub mod HeardSteps
-pub mod LineOrderly

@@ -11,7 +11,7 @@ use Rattle.meaning.specs.Rewriting.{Rule, Place, fill, Rewritten}
 use Rattle.meaning.specs.Rewriting.Rule.{factor-left, factor-right, exchange, repeat, regroup-seq, regroup-choice}
 use Rattle.meaning.specs.Rewriting.Place.{here, left-of-seq, right-of-seq, left-of-choice, right-of-choice, under-star}
 use Rattle.meaning.specs.Rewriting.Rewritten.{same, by, back, then}
-use Rattle.meaning.specs.Promises.{Rewriting-keeps-words, Rewriting-keeps-begins}
+use Rattle.meaning.specs.Promises.{Word-is-congruent, Rewriting-keeps-words, Rewriting-keeps-begins}
 
 -- every word of x is one of y
 abbrev pub Within : Expr → Expr → Type 0
@@ -42,6 +42,9 @@ within-fill (right-of-seq e p) x y f = within-seq e e _ _ (λ w h. h) (within-fi
 within-fill (left-of-choice p e) x y f = within-choice _ _ e e (within-fill p x y f) (λ w h. h)
 within-fill (right-of-choice e p) x y f = within-choice e e _ _ (λ w h. h) (within-fill p x y f)
 within-fill (under-star p) x y f = within-star _ _ (within-fill p x y f)
+
+pub word-is-congruent : Word-is-congruent
+word-is-congruent p x y f w = (within-fill p x y (λ v. f v .0) w, within-fill p y x (λ v. f v .1) w)
 
 -- each rule keeps the words, in both directions
 rule-there : {x y : Expr} → Rule x y → Within x y

@@ -13,6 +13,7 @@ use lib.ListN.{length, getD}
 use lib.Dec.{eqb, ltb, eqb·zero-suc, eqb·suc-zero, eqb·suc-suc}
 use lib.Bits.{bitOr, bitAnd, or-step, and-step}
 use Rattle.meaning.specs.Sets.{mem, In, unionOf}
+use Rattle.meaning.specs.Promises.{Laws-of-sets}
 
 -- the empty set has no member
 pub mem-none : (p : ℕ) → mem p 0 ≡ false
@@ -218,3 +219,16 @@ union-of-none rs = same-members (unionOf rs 0) 0 (λ q. go q (mem q (unionOf rs 
     go : (q : ℕ) (t : Bool) → mem q (unionOf rs 0) ≡ t → mem q (unionOf rs 0) ≡ mem q 0
     go q true e = none-in (in-union-of rs 0 q e .0) (in-union-of rs 0 q e .2)
     go q false e = e ∙ sym (mem-none q)
+
+pub laws-of-sets : Laws-of-sets
+laws-of-sets =
+    record {
+      none = mem-none;
+      single = in-single;
+      union = in-union;
+      shared = in-shared;
+      union-of-rows = λ rs s q. (in-union-of rs s q, λ (p, l, i, j). union-of-in rs s q p l i j);
+      equal = same-members;
+      equal-below = same-members-below;
+      has-member = member;
+    }

@@ -1,8 +1,7 @@
 -- What terminals call, and what they are told.
-use mathlib.Core.Option.{Option}
+use mathlib.Core.Option.{Option, some, none}
 use Prim.Native.Nat.{ℕ}
 use Rattle.meaning.specs.Names.{Name}
-use Rattle.meaning.specs.Waiting.{Waiter}
 
 -- "Ask (terminal, name)", "Finish (terminal)", "Withdraw (terminal)"
 pub data Call : Type 0 where
@@ -10,23 +9,38 @@ pub data Call : Type 0 where
   finish : ℕ → Call
   withdraw : ℕ → Call
 
+-- "the granted terminal and operation"
+pub record Grant : Type 0 where
+  pub terminal : ℕ
+  pub name : Name
+
 -- what was asked for is done, with a value, or the call is refused, with a number
 pub data Reply (A : Type 0) : Type 0 where
   done : A → Reply A
   refused : ℕ → Reply A
 
 -- "reply granted", "reply delayed with the number of entries ahead"
-pub data Ask : Type 0 where
-  granted : Ask
-  delayed : ℕ → Ask
+pub data AskReply : Type 0 where
+  granted : AskReply
+  delayed : ℕ → AskReply
 
--- "the number of entries examined", and "the granted terminal and operation, if any"
-pub record Finish : Type 0 where
+-- "the reply has the number of entries examined", and "names the granted terminal and operation, if any"
+pub record FinishReply : Type 0 where
   pub examined : ℕ
-  pub handed : Option Waiter
+  pub grants : Option Grant
 
--- a call with its reply; a withdrawal's is "the place it had, from 0"
+-- a call with its reply; a withdrawal's "has the place it had, from 0"
 pub data Exchange : Type 0 where
-  asked : ℕ → Name → Reply Ask → Exchange
-  finished : ℕ → Reply Finish → Exchange
+  asked : ℕ → Name → Reply AskReply → Exchange
+  finished : ℕ → Reply FinishReply → Exchange
   withdrew : ℕ → Reply ℕ → Exchange
+
+-- the number by which a call was refused, if it was
+abbrev pub refusalOf : {A : Type 0} → Reply A → Option ℕ
+refusalOf (done a) = none
+refusalOf (refused m) = some m
+
+abbrev pub refusalIn : Exchange → Option ℕ
+refusalIn (asked t n r) = refusalOf r
+refusalIn (finished t r) = refusalOf r
+refusalIn (withdrew t r) = refusalOf r

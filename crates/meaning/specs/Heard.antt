@@ -1,67 +1,71 @@
 -- What calls and replies show, to somebody who sees nothing else of a line.
 use mathlib.Core.Bool.{cond}
-use mathlib.Core.List.{List, [], _∷_, _++_}
+use mathlib.Core.List.{List, [], _∷_, _++_, map}
 use mathlib.Core.Option.{Option, some, none}
 use Prim.Native.Nat.{ℕ, suc}
 use lib.Dec.{eqb}
 use Rattle.meaning.specs.Names.{Name, key, same}
-use Rattle.meaning.specs.Waiting.{Waiter, Found, entryOf, without}
+use Rattle.meaning.specs.Waiting.{Entry, Found, entryOf, without}
 use Rattle.meaning.specs.Waiting.Found.{nobody, at}
-use Rattle.meaning.specs.Calls.{Exchange}
+use Rattle.meaning.specs.Calls.{Grant, Exchange}
 use Rattle.meaning.specs.Calls.Reply.{done, refused}
-use Rattle.meaning.specs.Calls.Ask.{granted, delayed}
+use Rattle.meaning.specs.Calls.AskReply.{granted, delayed}
 use Rattle.meaning.specs.Calls.Exchange.{asked, finished, withdrew}
+use Rattle.meaning.specs.Line.{Line}
 
--- the names of the asks that were granted or delayed; the grants in order; the names of what was withdrawn; the terminals
--- that were granted and have not finished; and those that were delayed and since neither granted nor withdrawn, with what
--- they wait for, longest waiting first
+-- the asks that were granted or delayed; the grants in order; what was withdrawn; the terminals that were granted and have
+-- not finished; and the asks that were delayed and since neither granted nor withdrawn, longest waiting first
 pub record Account : Type 0 where
-  pub asks : List Name
-  pub grants : List Waiter
-  pub withdrawals : List Name
+  pub asks : List Entry
+  pub grants : List Grant
+  pub withdrawals : List Entry
   pub unfinished : List ℕ
-  pub waiters : List Waiter
+  pub waiters : List Entry
 
 abbrev pub nothing : Account
 nothing = record { asks = []; grants = []; withdrawals = []; unfinished = []; waiters = [] }
+
+-- the grants in order, as a history
+abbrev pub grantedNames : Account → List Name
+grantedNames a = map (λ g. g .name) (a .grants)
 
 -- the terminals without one t
 unfoldable pub less : ℕ → List ℕ → List ℕ
 less t [] = []
 less t (u ∷ us) = cond (eqb u t) us (u ∷ less t us)
 
--- the waiters without the entry found, and that entry's name
-abbrev pub gone : List Waiter → Found → List Waiter
-gone ws nobody = ws
-gone ws (at p w) = without p ws
+-- the waiters without the entry found, and that entry
+abbrev pub gone : List Entry → Found → List Entry
+gone es nobody = es
+gone es (at p e) = without p es
 
-abbrev pub nameIn : Found → List Name
-nameIn nobody = []
-nameIn (at p w) = w .name ∷ []
+abbrev pub entryIn : Found → List Entry
+entryIn nobody = []
+entryIn (at p e) = e ∷ []
 
--- an ask of w was granted; it was delayed
-unfoldable pub hearGranted : Account → Waiter → Account
-hearGranted a w =
+-- an ask was granted; it was delayed
+unfoldable pub hearGranted : Account → Entry → Account
+hearGranted a e =
     record {
-      asks = a .asks ++ w .name ∷ [];
-      grants = a .grants ++ w ∷ [];
+      asks = a .asks ++ e ∷ [];
+      grants = a .grants ++ record { terminal = e .terminal; name = e .name } ∷ [];
       withdrawals = a .withdrawals;
-      unfinished = a .unfinished ++ w .terminal ∷ [];
+      unfinished = a .unfinished ++ e .terminal ∷ [];
       waiters = a .waiters;
     }
 
-unfoldable pub hearDelayed : Account → Waiter → Account
-hearDelayed a w =
+unfoldable pub hearDelayed : Account → Entry → Account
+hearDelayed a e =
     record {
-      asks = a .asks ++ w .name ∷ [];
+      asks = a .asks ++ e ∷ [];
       grants = a .grants;
       withdrawals = a .withdrawals;
       unfinished = a .unfinished;
-      waiters = a .waiters ++ w ∷ [];
+      waiters = a .waiters ++ e ∷ [];
     }
 
--- terminal t finished, and w was granted, if anybody
-unfoldable pub hearFinished : Account → ℕ → Option Waiter → Account
+-- terminal t finished, and g was granted, if anybody was
+unfoldable pub hearFinished : Account → ℕ → Option Grant → Account
 hearFinished a t none =
     record {
       asks = a .asks;
@@ -70,22 +74,22 @@ hearFinished a t none =
       unfinished = less t (a .unfinished);
       waiters = a .waiters;
     }
-hearFinished a t (some w) =
+hearFinished a t (some g) =
     record {
       asks = a .asks;
-      grants = a .grants ++ w ∷ [];
+      grants = a .grants ++ g ∷ [];
       withdrawals = a .withdrawals;
-      unfinished = less t (a .unfinished) ++ w .terminal ∷ [];
-      waiters = gone (a .waiters) (entryOf (w .terminal) (a .waiters));
+      unfinished = less t (a .unfinished) ++ g .terminal ∷ [];
+      waiters = gone (a .waiters) (entryOf (g .terminal) (a .waiters));
     }
 
--- terminal t withdrew
+-- terminal t withdrew what it waited for
 unfoldable pub hearWithdrawn : Account → ℕ → Account
 hearWithdrawn a t =
     record {
       asks = a .asks;
       grants = a .grants;
-      withdrawals = a .withdrawals ++ nameIn (entryOf t (a .waiters));
+      withdrawals = a .withdrawals ++ entryIn (entryOf t (a .waiters));
       unfinished = a .unfinished;
       waiters = gone (a .waiters) (entryOf t (a .waiters));
     }
@@ -95,7 +99,7 @@ unfoldable pub hear : Account → Exchange → Account
 hear a (asked t n (done granted)) = hearGranted a (record { terminal = t; name = key n })
 hear a (asked t n (done (delayed p))) = hearDelayed a (record { terminal = t; name = key n })
 hear a (asked t n (refused m)) = a
-hear a (finished t (done f)) = hearFinished a t (f .handed)
+hear a (finished t (done r)) = hearFinished a t (r .grants)
 hear a (finished t (refused m)) = a
 hear a (withdrew t (done p)) = hearWithdrawn a t
 hear a (withdrew t (refused m)) = a
@@ -107,6 +111,14 @@ hearAll a (x ∷ xs) = hearAll (hear a x) xs
 
 unfoldable pub account : List Exchange → Account
 account xs = hearAll nothing xs
+
+-- the line that was heard: the names granted, the unfinished terminal, the waiters
+abbrev pub unfinishedIn : List ℕ → Option ℕ
+unfinishedIn [] = none
+unfinishedIn (t ∷ ts) = some t
+
+abbrev pub lineOf : Account → Line
+lineOf a = record { history = grantedNames a; running = unfinishedIn (a .unfinished); waiting = a .waiters }
 
 -- how often n is among ns
 unfoldable pub count : Name → List Name → ℕ

@@ -10,3 +10,4 @@ pub mod Calls
 pub mod Line
 pub mod Heard
 pub mod Promises
+pub mod LinePromises

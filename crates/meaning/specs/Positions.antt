@@ -16,29 +16,31 @@ size (seq a b) = size a + size b
 size (choice a b) = size a + size b
 size (star a) = size a
 
--- "a name can't be empty", "a choice can be empty if a part can", "a sequence if both factors can", "a starred part can"
+-- "A name can't be empty"; "a sequence can be empty if both factors can"; "a choice can be empty if a part can"; "a starred
+-- part can be empty"
 unfoldable pub canBeEmpty : Expr → Bool
 canBeEmpty (name n) = false
 canBeEmpty (seq a b) = canBeEmpty a && canBeEmpty b
 canBeEmpty (choice a b) = canBeEmpty a || canBeEmpty b
 canBeEmpty (star a) = true
 
--- first: "its own position"; "the unions"; "that of the left, joined with the right's if the left can be empty"; "keeps"
+-- first: of a name "its own position"; of a sequence "that of the left, joined with the right's if the left can be empty"; of a
+-- choice "the unions"; a starred part "keeps" it
 unfoldable pub first : Expr → ℕ → ℕ
 first (name n) lo = 2 ^ lo
 first (seq a b) lo = cond (canBeEmpty a) (bitOr (first a lo) (first b (lo + size a))) (first a lo)
 first (choice a b) lo = bitOr (first a lo) (first b (lo + size a))
 first (star a) lo = first a lo
 
--- last: "the mirror"
+-- last: of a sequence "the mirror", else as first
 unfoldable pub last : Expr → ℕ → ℕ
 last (name n) lo = 2 ^ lo
 last (seq a b) lo = cond (canBeEmpty b) (bitOr (last a lo) (last b (lo + size a))) (last b (lo + size a))
 last (choice a b) lo = bitOr (last a lo) (last b (lo + size a))
 last (star a) lo = last a lo
 
--- what follows p: "every last position of the left is followed by every first position of the right", "every last
--- position is followed by every first position of it"
+-- what follows p: in a sequence "every last position of the left is followed by every first position of the right"; in a
+-- starred part "every last position is followed by every first position of it"
 unfoldable pub follows : Expr → ℕ → ℕ → ℕ
 follows (name n) lo p = 0
 follows (seq a b) lo p =

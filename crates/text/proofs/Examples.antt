@@ -6,7 +6,7 @@ use lib.ListN.{replicate}
 use Rattle.meaning.specs.Names.{key, same}
 use Rattle.text.specs.Classes.{classOf}
 use Rattle.text.specs.Tokens.{span, wordToken, signToken, tokenFrom, nextToken}
-use Rattle.text.specs.declared.tokens.Token.the-variants.{Semicolon, Path, End, Name, Nothing, Bad, Long}
+use Rattle.text.specs.declared.tokens.Token.the-variants.{Semicolon, Path, End, Name, TextEnd, Bad, Long}
 
 -- "path a"
 path-a : nextToken (112 ∷ 97 ∷ 116 ∷ 104 ∷ 32 ∷ 97 ∷ []) ≡ record { token = Path; start = 0; used = 4 }
@@ -47,10 +47,10 @@ unfolding nextToken tokenFrom span signToken classOf
 byte-200 = refl
 
 -- nothing, and blanks alone
-empty-text : nextToken [] ≡ record { token = Nothing; start = 0; used = 0 }
+empty-text : nextToken [] ≡ record { token = TextEnd; start = 0; used = 0 }
 unfolding nextToken tokenFrom span
 empty-text = refl
 
-blanks-alone : nextToken (9 ∷ 13 ∷ []) ≡ record { token = Nothing; start = 2; used = 2 }
+blanks-alone : nextToken (9 ∷ 13 ∷ []) ≡ record { token = TextEnd; start = 2; used = 2 }
 unfolding nextToken tokenFrom span classOf
 blanks-alone = refl

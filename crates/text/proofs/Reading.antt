@@ -12,7 +12,7 @@ use lib.Seq.{length-take-le}
 use Rattle.text.specs.Classes.{letter, semicolon, plus, asterisk, opening, closing, classOf}
 use Rattle.text.specs.Tokens.{span, blankByte, nameByte, pathWord, endWord, sameName, wordToken, signToken, tokenFrom, nextToken}
 use Rattle.text.specs.declared.tokens.Token.{Token}
-use Rattle.text.specs.declared.tokens.Token.the-variants.{Semicolon, Plus, Star, Open, Close, Path, End, Name, Nothing, Bad, Long}
+use Rattle.text.specs.declared.tokens.Token.the-variants.{Semicolon, Plus, Star, Open, Close, Path, End, Name, TextEnd, Bad, Long}
 use Rattle.text.specs.declared.tokens.Read.{Read}
 use Rattle.text.proofs.Spans.{span-counts, span-within}
 
@@ -26,7 +26,7 @@ Takes m Close = Unit {0}
 Takes m Path = Unit {0}
 Takes m End = Unit {0}
 Takes m (Name n) = (n ≡ m) × (n ≤ 16)
-Takes m Nothing = ⊥
+Takes m TextEnd = ⊥
 Takes m Bad = Unit {0}
 Takes m Long = Unit {0}
 
@@ -100,7 +100,7 @@ moved-named k left r n m e =
     let name : Takes (m .bytes) (Name n) = subst (Takes (m .bytes)) e (m .takes) in
     record { reach = rw (m .place, m .reach, name .0); some = rw (name .0) (m .some); short = name .1 }
 
-moved-not-ended : (k : ℕ) (left : List ℕ) (r : Read) → Moved k left r → r .token ≡ Nothing → ⊥
+moved-not-ended : (k : ℕ) (left : List ℕ) (r : Read) → Moved k left r → r .token ≡ TextEnd → ⊥
 moved-not-ended k left r m e = subst (Takes (m .bytes)) e (m .takes)
 
 from-start : (k : ℕ) (left : List ℕ) → tokenFrom k left .start ≡ k
@@ -118,12 +118,12 @@ unfolding tokenFrom
 from-within k [] = omega arith
 from-within k (b ∷ s) = let m = from-moved k b s in omega arith
 
-from-moves : (k : ℕ) (left : List ℕ) → (tokenFrom k left .token ≡ Nothing → ⊥) → tokenFrom k left .start < tokenFrom k left .used
+from-moves : (k : ℕ) (left : List ℕ) → (tokenFrom k left .token ≡ TextEnd → ⊥) → tokenFrom k left .start < tokenFrom k left .used
 unfolding tokenFrom
 from-moves k [] h = absurd (h refl)
 from-moves k (b ∷ s) h = let m = from-moved k b s in omega arith
 
-from-ends : (k : ℕ) (left : List ℕ) → tokenFrom k left .token ≡ Nothing → left ≡ []
+from-ends : (k : ℕ) (left : List ℕ) → tokenFrom k left .token ≡ TextEnd → left ≡ []
 from-ends k [] e = refl
 from-ends k (b ∷ s) e = absurd (moved-not-ended k (b ∷ s) (tokenFrom k (b ∷ s)) (from-moved k b s) e)
 
@@ -148,18 +148,18 @@ module _ (s : List ℕ) where
       let k = span blankByte s in
       omega (arith, from-within k (drop k s), length-drop k s, span-within blankByte s)
 
-  pub token-moves-on : (nextToken s .token ≡ Nothing → ⊥) → nextToken s .start < nextToken s .used
+  pub token-moves-on : (nextToken s .token ≡ TextEnd → ⊥) → nextToken s .start < nextToken s .used
   unfolding nextToken
   token-moves-on h = from-moves (span blankByte s) (drop (span blankByte s) s) h
 
   -- nothing is left: the text is used up
-  pub nothing-uses-all : nextToken s .token ≡ Nothing → nextToken s .used ≡ length s
+  pub nothing-uses-all : nextToken s .token ≡ TextEnd → nextToken s .used ≡ length s
   unfolding nextToken
   nothing-uses-all e =
       let k = span blankByte s in
       let empty = ap length (from-ends k (drop k s) e) in
       omega (arith, length-drop k s, span-within blankByte s, from-within k (drop k s), from-forward k (drop k s), from-start k (drop k s))
 
-  pub name-is-its-bytes : (n : ℕ) → nextToken s .token ≡ Name n → Named (nextToken s) n
+  pub name-reaches : (n : ℕ) → nextToken s .token ≡ Name n → Named (nextToken s) n
   unfolding nextToken
-  name-is-its-bytes n e = from-named (span blankByte s) (drop (span blankByte s) s) n e
+  name-reaches n e = from-named (span blankByte s) (drop (span blankByte s) s) n e

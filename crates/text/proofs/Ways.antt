@@ -9,7 +9,7 @@ use lib.ListN.{length, take, drop, getD}
 use Rattle.text.specs.Classes.{letter, classOf}
 use Rattle.text.specs.Tokens.{span, blankByte, nameByte, wordToken, signToken, tokenFrom, nextToken}
 use Rattle.text.specs.declared.tokens.Token.{Token}
-use Rattle.text.specs.declared.tokens.Token.the-variants.{Nothing}
+use Rattle.text.specs.declared.tokens.Token.the-variants.{TextEnd}
 use Rattle.text.specs.declared.tokens.Read.{Read}
 
 module _ (s : List ℕ) (k : ℕ) (blanks : k ≡ span blankByte s) where
@@ -18,7 +18,7 @@ module _ (s : List ℕ) (k : ℕ) (blanks : k ≡ span blankByte s) where
   behind-blanks rest e = rw (← blanks, ← e)
 
   pub way-nothing : (rest : List ℕ) → rest ≡ drop k s → length rest ≡ 0
-      → _≡_ {A = Read} (record { token = Nothing; start = k; used = k }) (nextToken s)
+      → _≡_ {A = Read} (record { token = TextEnd; start = k; used = k }) (nextToken s)
   unfolding tokenFrom
   way-nothing [] e h = behind-blanks [] e
   way-nothing (b ∷ r) e h = absurd (omega arith)

@@ -1,5 +1,5 @@
--- The class rule: "bytes are blanks (32, 9, 10, 13), letters A-Z and a-z, digits 0-9, and the signs ; + * ( ); every other
--- byte is bad". A class is a number, as the table of classes has it.
+-- The class rule: "Bytes are blanks (32, 9, 10, 13), letters A-Z and a-z, digits 0-9, and the signs ; + * ( ). Every other byte is
+-- bad". A class is a number, as in the program's table.
 use mathlib.Core.Bool.{Bool, cond, _&&_, _||_}
 use Prim.Native.Nat.{ℕ}
 use lib.Dec.{eqb, leb}

@@ -7,7 +7,7 @@ use lib.ListN.{length, take, drop}
 use Rattle.meaning.specs.Names.{key, same}
 use Rattle.text.specs.Classes.{blank, letter, digit, semicolon, plus, asterisk, opening, closing, classOf}
 use Rattle.text.specs.declared.tokens.Token.{Token}
-use Rattle.text.specs.declared.tokens.Token.the-variants.{Semicolon, Plus, Star, Open, Close, Path, End, Name, Nothing, Bad, Long}
+use Rattle.text.specs.declared.tokens.Token.the-variants.{Semicolon, Plus, Star, Open, Close, Path, End, Name, TextEnd, Bad, Long}
 use Rattle.text.specs.declared.tokens.Read.{Read}
 
 -- how many bytes at the front pass a test
@@ -22,25 +22,25 @@ blankByte b = eqb (classOf b) blank
 abbrev pub nameByte : ℕ → Bool
 nameByte b = eqb (classOf b) letter || eqb (classOf b) digit
 
--- the bytes of `path` and of `end`, "in small letters"
+-- the bytes of `path` and of `end`
 abbrev pub pathWord : List ℕ
 pathWord = 112 ∷ 97 ∷ 116 ∷ 104 ∷ []
 
 abbrev pub endWord : List ℕ
 endWord = 101 ∷ 110 ∷ 100 ∷ []
 
--- two names are one
+-- the two names are one: "compared byte for byte", through their keys
 abbrev pub sameName : List ℕ → List ℕ → Bool
 sameName m n = same (key m) (key n)
 
--- "`path` and `end` are keywords and never names"; a name has "1 to 16 bytes"
+-- "`path` and `end` in small letters are keywords and never names"; a name has "1 to 16 bytes"
 unfoldable pub wordToken : List ℕ → Token
 wordToken w =
     cond (sameName w pathWord) Path
     (cond (sameName w endWord) End
     (cond (ltb 16 (length w)) Long (Name (length w))))
 
--- the sign of a class; a byte that is none is bad, and so is "a token that starts with a digit"
+-- the sign of a class; any other byte is bad, for "a token that starts with a digit is refused as a bad byte"
 unfoldable pub signToken : ℕ → Token
 signToken c =
     cond (eqb c semicolon) Semicolon
@@ -55,7 +55,7 @@ wordRead k n s = record { token = wordToken (take n s); start = k; used = k + n 
 
 -- the token at the front of a text that starts with no blank, after k blanks
 unfoldable pub tokenFrom : ℕ → List ℕ → Read
-tokenFrom k [] = record { token = Nothing; start = k; used = k }
+tokenFrom k [] = record { token = TextEnd; start = k; used = k }
 tokenFrom k (b ∷ s) =
     cond (eqb (classOf b) letter) (wordRead k (span nameByte (b ∷ s)) (b ∷ s))
     (record { token = signToken (classOf b); start = k; used = k + 1 })

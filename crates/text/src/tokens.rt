@@ -24,7 +24,7 @@ pub enum Token {
     // A name, of so many bytes.
     Name(usize),
     // The text ends.
-    Nothing,
+    TextEnd,
     // A bad byte, or a digit at a token's start.
     Bad,
     // A name of 17 or more bytes.
@@ -138,7 +138,7 @@ pub fn next(s: &[u8]) -> Read
     let rest = &s[k..];
     if rest.len() == 0 {
         return Read {
-            token: Token::Nothing,
+            token: Token::TextEnd,
             start: k,
             used: k,
         };
