@@ -1,4 +1,4 @@
--- Proofs of what specs/Promises.antt promises, lowest first.
+-- Proofs of what specs/Promises.antt and specs/LinePromises.antt promise, lowest first.
 pub mod NameLaws
 pub mod SetLaws
 pub mod WordLaws
@@ -9,6 +9,14 @@ pub mod Onward
 pub mod Walks
 pub mod Heart
 pub mod Fitting
-pub mod Samples
 pub mod Occurring
 pub mod Rewritings
+pub mod Samples
+pub mod WaitingLaws
+pub mod HeardCounts
+pub mod LineRefusals
+pub mod LineAnswers
+pub mod HeardSteps
+pub mod LineTalk
+pub mod LineReads
+pub mod LineKeeps
