@@ -1,8 +1,8 @@
 -- Which names occur in permitted histories: each name of the expression ends one, and no other name stands in any. By induction
 -- on the expression; every other part of a word is filled with some word of it.
-use mathlib.Core.Path.{_≡_, refl, sym, ap}
+use mathlib.Core.Path.{sym, ap}
 use mathlib.Core.Logic.{inl, inr, ⊎-elim}
-use mathlib.Core.List.{List, [], _∷_, _++_, map, map-append, append-assoc, List·Memᴰ, List·Memᴰ·head, List·Memᴰ·tail, List·Memᴰ·not-nil, List·Memᴰ·cases-cons, List·Memᴰ·append-cases, List·Memᴰ·eq-of-singleton, Memᴰ·append-left, Memᴰ·append-right}
+use mathlib.Core.List.{List, [], _∷_, _++_, map, map-append, append-assoc, List·Memᴰ, List·Memᴰ·head, List·Memᴰ·not-nil, List·Memᴰ·append-cases, List·Memᴰ·eq-of-singleton, Memᴰ·append-left, Memᴰ·append-right, Memᴰ·of-map}
 use Rattle.meaning.specs.Names.{Name, key}
 use Rattle.meaning.specs.Words.{Expr, Repeated, Word, Begins, names}
 use Rattle.meaning.specs.Words.Expr.{name, seq, choice, star}
@@ -38,15 +38,6 @@ every-name-occurs e n i =
     let (u, v, w) = name-in-word e n i in
     (u, (v, rw (append-assoc u (key n ∷ []) v) (repeated-once (Word e) (u ++ key n ∷ v) w)))
 
--- an element of a mapped list comes from one of the list
-mem-map-back : (f : Name → Name) (ns : List Name) {k : Name} → List·Memᴰ k (map f ns) → (n : Name) × List·Memᴰ n ns × (k ≡ f n)
-mem-map-back f [] i = absurd (List·Memᴰ·not-nil i)
-mem-map-back f (n ∷ ns) i =
-    ⊎-elim
-    (λ e. (n, List·Memᴰ·head refl, e))
-    (λ j. let (m, l, e) = mem-map-back f ns j in (m, List·Memᴰ·tail l, e))
-    (List·Memᴰ·cases-cons i)
-
 -- what stands in a repetition stands in one of its words
 in-repeated : (W : List Name → Type 0) (ks : List Name) (k : Name) → ((u : List Name) → W u → List·Memᴰ k u → List·Memᴰ k ks)
     → {w : List Name} → Repeated W w → List·Memᴰ k w → List·Memᴰ k ks
@@ -77,9 +68,9 @@ no-other-name-occurs e h k (w, r) i =
 keys-within : (x y : Expr) → ((h : List Name) → Begins x h → Begins y h) → (k : Name)
     → List·Memᴰ k (map key (names x)) → List·Memᴰ k (map key (names y))
 keys-within x y f k i =
-    let (n, m, e) = mem-map-back key (names x) i in
+    let (n, m, e) = Memᴰ·of-map key (names x) i in
     let (h, b) = every-name-occurs x n m in
-    no-other-name-occurs y (h ++ key n ∷ []) k (f (h ++ key n ∷ []) b) (Memᴰ·append-right h (List·Memᴰ·head e))
+    no-other-name-occurs y (h ++ key n ∷ []) k (f (h ++ key n ∷ []) b) (Memᴰ·append-right h (List·Memᴰ·head (sym e)))
 
 pub same-begins-same-names : Same-begins-same-names
 same-begins-same-names x y f k = (keys-within x y (λ h. f h .0) k, keys-within y x (λ h. f h .1) k)

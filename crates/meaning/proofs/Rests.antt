@@ -117,15 +117,18 @@ follows-inside (choice a b) lo p q h =
 follows-inside (star a) lo p q h =
     ⊎-elim (follows-inside a lo p q) (λ i. first-inside a lo q (i .1)) (in-follows-star a lo p q .0 h)
 
+-- a sequence and a choice have the positions of both parts
+parts-inside : (a b : Expr) (lo p : ℕ) (k : Name) → (In p (positionsOf a lo k) → Inside lo (size a) p)
+    → (In p (positionsOf b (lo + size a) k) → Inside (lo + size a) (size b) p)
+    → In p (bitOr (positionsOf a lo k) (positionsOf b (lo + size a) k)) → Inside lo (size a + size b) p
+parts-inside a b lo p k f g h =
+    either-inside lo (size a) (size b) p (⊎-map f g (in-union p (positionsOf a lo k) (positionsOf b (lo + size a) k) .0 h))
+
 pub positions-inside : (e : Expr) (lo p : ℕ) (k : Name) → In p (positionsOf e lo k) → Inside lo (size e) p
 unfolding positionsOf size
 positions-inside (name n) lo p k h = at-own-bit lo p (in-single p lo .0 (in-cond (same (key n) k) p (2 ^ lo) .0 h .1))
-positions-inside (seq a b) lo p k h =
-    either-inside lo (size a) (size b) p
-    (⊎-map (positions-inside a lo p k) (positions-inside b (lo + size a) p k) (in-union p (positionsOf a lo k) (positionsOf b (lo + size a) k) .0 h))
-positions-inside (choice a b) lo p k h =
-    either-inside lo (size a) (size b) p
-    (⊎-map (positions-inside a lo p k) (positions-inside b (lo + size a) p k) (in-union p (positionsOf a lo k) (positionsOf b (lo + size a) k) .0 h))
+positions-inside (seq a b) lo p k h = parts-inside a b lo p k (positions-inside a lo p k) (positions-inside b (lo + size a) p k) h
+positions-inside (choice a b) lo p k h = parts-inside a b lo p k (positions-inside a lo p k) (positions-inside b (lo + size a) p k) h
 positions-inside (star a) lo p k h = positions-inside a lo p k h
 
 pub rest-inside : (e : Expr) (lo p : ℕ) (w : List Name) → Rest e lo p w → Inside lo (size e) p

@@ -41,53 +41,46 @@ mem-single (suc p) (suc q) = rw (pow-suc, half-double) (mem-single p q ∙ sym (
 pub in-single : (p q : ℕ) → In p (2 ^ q) ↔ (p ≡ q)
 in-single p q = (λ h. eqb-true p q (sym (mem-single p q) ∙ h), λ h. mem-single p q ∙ eq-eqb p q h)
 
--- unions, and what two sets share
-or-half : (a b : ℕ) → bitOr a b / 2 ≡ bitOr (a / 2) (b / 2)
-or-half a b =
-    let h : max (a % 2) (b % 2) < 2 = omega arith in
-    omega (arith, or-step a b)
+-- what holds of each two digits 0 and 1
+both-digits : (P : ℕ → ℕ → Type 0) → P 0 0 → P 0 1 → P 1 0 → P 1 1 → (a b : ℕ) → a < 2 → b < 2 → P a b
+both-digits P at00 at01 at10 at11 zero zero h k = at00
+both-digits P at00 at01 at10 at11 zero (suc zero) h k = at01
+both-digits P at00 at01 at10 at11 (suc zero) zero h k = at10
+both-digits P at00 at01 at10 at11 (suc zero) (suc zero) h k = at11
+both-digits P at00 at01 at10 at11 zero (suc (suc b)) h k = absurd (omega arith)
+both-digits P at00 at01 at10 at11 (suc zero) (suc (suc b)) h k = absurd (omega arith)
+both-digits P at00 at01 at10 at11 (suc (suc a)) zero h k = absurd (omega arith)
+both-digits P at00 at01 at10 at11 (suc (suc a)) (suc zero) h k = absurd (omega arith)
+both-digits P at00 at01 at10 at11 (suc (suc a)) (suc (suc b)) h k = absurd (omega arith)
 
-or-odd : (a b : ℕ) → bitOr a b % 2 ≡ max (a % 2) (b % 2)
-or-odd a b =
-    let h : max (a % 2) (b % 2) < 2 = omega arith in
-    omega (arith, or-step a b)
+-- a number made of its half and its last digit
+halved : (x y d : ℕ) → x ≡ y * 2 + d → d < 2 → (x / 2 ≡ y) × (x % 2 ≡ d)
+halved x y d e h = (omega arith, omega arith)
 
-and-half : (a b : ℕ) → bitAnd a b / 2 ≡ bitAnd (a / 2) (b / 2)
-and-half a b =
-    let h : min (a % 2) (b % 2) < 2 = omega arith in
-    omega (arith, and-step a b)
-
-and-odd : (a b : ℕ) → bitAnd a b % 2 ≡ min (a % 2) (b % 2)
-and-odd a b =
-    let h : min (a % 2) (b % 2) < 2 = omega arith in
-    omega (arith, and-step a b)
-
--- of two digits, the larger is 1 where one of them is, and the smaller where both are
-module _ (f : ℕ → ℕ → ℕ) (g : Bool → Bool → Bool)
-    (at00 : eqb (f 0 0) 1 ≡ g false false) (at01 : eqb (f 0 1) 1 ≡ g false true)
-    (at10 : eqb (f 1 0) 1 ≡ g true false) (at11 : eqb (f 1 1) 1 ≡ g true true) where
-  digits : (a b : ℕ) → a < 2 → b < 2 → eqb (f a b) 1 ≡ g (eqb a 1) (eqb b 1)
-  digits zero zero h k = at00
-  digits zero (suc zero) h k = at01
-  digits (suc zero) zero h k = at10
-  digits (suc zero) (suc zero) h k = at11
-  digits zero (suc (suc b)) h k = absurd (omega arith)
-  digits (suc zero) (suc (suc b)) h k = absurd (omega arith)
-  digits (suc (suc a)) zero h k = absurd (omega arith)
-  digits (suc (suc a)) (suc zero) h k = absurd (omega arith)
-  digits (suc (suc a)) (suc (suc b)) h k = absurd (omega arith)
+-- unions, and what two sets share: a digit of the result is made of the digits, by f, as membership is, by g
+module _ (set : ℕ → ℕ → ℕ) (f : ℕ → ℕ → ℕ) (g : Bool → Bool → Bool)
+    (step : (a b : ℕ) → set a b ≡ set (a / 2) (b / 2) * 2 + f (a % 2) (b % 2))
+    (digit : (a b : ℕ) → a < 2 → b < 2 → (f a b < 2) × (eqb (f a b) 1 ≡ g (eqb a 1) (eqb b 1))) where
+  mem-digitwise : (p a b : ℕ) → mem p (set a b) ≡ g (mem p a) (mem p b)
+  unfolding mem
+  mem-digitwise zero a b =
+      let d = digit (a % 2) (b % 2) (omega arith) (omega arith) in
+      ap (λ (n : ℕ). eqb n 1) (halved (set a b) (set (a / 2) (b / 2)) (f (a % 2) (b % 2)) (step a b) (d .0) .1) ∙ d .1
+  mem-digitwise (suc p) a b =
+      let d = digit (a % 2) (b % 2) (omega arith) (omega arith) in
+      ap (mem p) (halved (set a b) (set (a / 2) (b / 2)) (f (a % 2) (b % 2)) (step a b) (d .0) .0) ∙ mem-digitwise p (a / 2) (b / 2)
 
 pub mem-union : (p a b : ℕ) → mem p (bitOr a b) ≡ mem p a || mem p b
-unfolding mem
-mem-union zero a b =
-    ap (λ (n : ℕ). eqb n 1) (or-odd a b) ∙ digits max _||_ refl refl refl refl (a % 2) (b % 2) (omega arith) (omega arith)
-mem-union (suc p) a b = ap (mem p) (or-half a b) ∙ mem-union p (a / 2) (b / 2)
+mem-union =
+    mem-digitwise bitOr max _||_ or-step
+    (both-digits (λ a b. (max a b < 2) × (eqb (max a b) 1 ≡ eqb a 1 || eqb b 1))
+    (omega arith, refl) (omega arith, refl) (omega arith, refl) (omega arith, refl))
 
 pub mem-shared : (p a b : ℕ) → mem p (bitAnd a b) ≡ mem p a && mem p b
-unfolding mem
-mem-shared zero a b =
-    ap (λ (n : ℕ). eqb n 1) (and-odd a b) ∙ digits min _&&_ refl refl refl refl (a % 2) (b % 2) (omega arith) (omega arith)
-mem-shared (suc p) a b = ap (mem p) (and-half a b) ∙ mem-shared p (a / 2) (b / 2)
+mem-shared =
+    mem-digitwise bitAnd min _&&_ and-step
+    (both-digits (λ a b. (min a b < 2) × (eqb (min a b) 1 ≡ eqb a 1 && eqb b 1))
+    (omega arith, refl) (omega arith, refl) (omega arith, refl) (omega arith, refl))
 
 pub either-true : (a b : Bool) → (a || b ≡ true) ↔ ((a ≡ true) ⊎ (b ≡ true))
 either-true true b = (λ h. inl refl, λ h. refl)
@@ -117,15 +110,8 @@ in-joined-left false p x y = (inr, ⊎-elim (λ k. absurd (false≢true (k .0)))
 
 -- sets with the same members are equal
 odd-by-member : (a b : ℕ) → a < 2 → b < 2 → eqb a 1 ≡ eqb b 1 → a ≡ b
-odd-by-member zero zero h k e = refl
-odd-by-member (suc zero) (suc zero) h k e = refl
-odd-by-member zero (suc zero) h k e = absurd (false≢true e)
-odd-by-member (suc zero) zero h k e = absurd (true≢false e)
-odd-by-member zero (suc (suc b)) h k e = absurd (omega arith)
-odd-by-member (suc zero) (suc (suc b)) h k e = absurd (omega arith)
-odd-by-member (suc (suc a)) zero h k e = absurd (omega arith)
-odd-by-member (suc (suc a)) (suc zero) h k e = absurd (omega arith)
-odd-by-member (suc (suc a)) (suc (suc b)) h k e = absurd (omega arith)
+odd-by-member =
+    both-digits (λ a b. eqb a 1 ≡ eqb b 1 → a ≡ b) (λ e. refl) (λ e. absurd (false≢true e)) (λ e. absurd (true≢false e)) (λ e. refl)
 
 same-up-to : (k a b : ℕ) → a ≤ k → b ≤ k → ((p : ℕ) → mem p a ≡ mem p b) → a ≡ b
 unfolding mem
