@@ -6,7 +6,7 @@ use Prim.Native.Nat.{ℕ, _+_, _≤_}
 use native.Mathlib.Omega.{arith}
 use lib.ListN.{length}
 use Rattle.meaning.specs.Names.{Name, key}
-use Rattle.meaning.specs.Waiting.{namesOf, entryOf}
+use Rattle.meaning.specs.Waiting.{terminalsOf, namesOf, entryOf}
 use Rattle.meaning.specs.Waiting.Found.{at}
 use Rattle.meaning.specs.Calls.{AskReply, FinishReply}
 use Rattle.meaning.specs.Calls.Reply.{done}
@@ -15,7 +15,7 @@ use Rattle.meaning.specs.Heard.{Account, grantedNames, hearGranted, hear
 use Rattle.meaning.specs.LinePromises.{Runs, Waits, Asked, Finished, Withdrawn}
 use Rattle.meaning.specs.LinePromises.Asked.{is-granted, is-delayed}
 use Rattle.meaning.specs.LinePromises.Finished.{longest-goes, nobody-goes}
-use Rattle.meaning.proofs.WaitingLaws.{terminalsOf, Fails, member-around, Distinct, distinct-without, distinct-with, own-entry, without-own, fails-with}
+use Rattle.meaning.proofs.WaitingLaws.{Fails, member-around, Distinct, distinct-without, distinct-with, own-entry, without-own, fails-with}
 use Rattle.meaning.proofs.HeardCounts.{count-append, count-between}
 use Rattle.meaning.proofs.LineAnswers.{less-unfinished}
 

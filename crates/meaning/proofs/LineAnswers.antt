@@ -2,14 +2,14 @@
 -- search found.
 use mathlib.Core.Path.{_≡_, refl, sym, _∙_}
 use mathlib.Core.Bool.{Bool, true, false, cond, _&&_, false≢true}
-use mathlib.Core.List.{List, [], _∷_, _++_, map-append, cons≢nil, List·Memᴰ, List·Memᴰ·eq-of-singleton}
+use mathlib.Core.List.{List, [], _∷_, _++_, map-append, cons≢nil, List·Memᴰ, List·Memᴰ·eq-of-singleton, Memᴰ·of-map}
 use Prim.Native.Nat.{ℕ, _≤_}
 use native.Mathlib.Omega.{arith}
 use lib.Dec.{eqb}
 use lib.ListN.{length}
-use borrow.Author.Tests.{eqb-true, eq-eqb}
+use borrow.Author.Tests.{eqb-true, eqb-false, eq-eqb}
 use Rattle.meaning.specs.Names.{Name, key}
-use Rattle.meaning.specs.Waiting.{Entry, Found, entryOf, put}
+use Rattle.meaning.specs.Waiting.{terminalsOf, Entry, Found, entryOf, put}
 use Rattle.meaning.specs.Waiting.Found.{nobody, at}
 use Rattle.meaning.specs.Calls.{AskReply}
 use Rattle.meaning.specs.Calls.Reply.{done}
@@ -20,7 +20,7 @@ use Rattle.meaning.specs.Heard.{Account, grantedNames, less, gone, unfin
 use Rattle.meaning.specs.LinePromises.{Runs, Waits, Asked, Finished, Withdrawn}
 use Rattle.meaning.specs.LinePromises.Asked.{is-granted, is-delayed}
 use Rattle.meaning.specs.LinePromises.Finished.{longest-goes, nobody-goes}
-use Rattle.meaning.proofs.WaitingLaws.{terminalsOf, Finds, seek-finds, waits-reads, Distinct, own-entry, put-last}
+use Rattle.meaning.proofs.WaitingLaws.{Finds, seek-finds, waits-reads, Distinct, own-entry, put-last}
 
 -- the entry that an ask makes
 abbrev pub asking : ℕ → Name → Entry
@@ -75,6 +75,7 @@ module _ (permitted : List Name → Bool) (known : Name → Bool) (a : Account) 
         after = h .after;
         listed = h .listed;
         own = eqb-true (d .terminal) t (h .passes);
+        none-ahead = λ m. let (c, k, q) = Memᴰ·of-map (λ (e : Entry). e .terminal) (h .ahead) m in eqb-false (c .terminal) t (h .others c k) q;
         place = h .place;
       }
 

@@ -2,18 +2,15 @@
 -- those ahead and those after; all is by induction on the list, or on those ahead.
 use mathlib.Core.Path.{_≡_, refl, sym, ap, _∙_}
 use mathlib.Core.Bool.{Bool, true, false, cond, false≢true}
-use mathlib.Core.List.{List, [], _∷_, _++_, map, map-append, List·Memᴰ, List·Memᴰ·head, List·Memᴰ·tail, List·Memᴰ·not-nil, List·Memᴰ·cases-cons, List·Memᴰ·append-cases, List·Memᴰ·eq-of-singleton, Memᴰ·cast, Memᴰ·append-left, Memᴰ·append-right, Memᴰ·map, Memᴰ·of-map}
+use mathlib.Core.List.{List, [], _∷_, _++_, map-append, List·Memᴰ, List·Memᴰ·head, List·Memᴰ·tail, List·Memᴰ·not-nil, List·Memᴰ·cases-cons, List·Memᴰ·append-cases, List·Memᴰ·eq-of-singleton, Memᴰ·cast, Memᴰ·append-left, Memᴰ·append-right, Memᴰ·map, Memᴰ·of-map}
 use mathlib.Core.Logic.{_↔_, ⊎-elim}
 use Prim.Native.Nat.{ℕ, suc}
 use lib.Dec.{eqb}
 use lib.ListN.{length}
 use borrow.Author.Tests.{eqb-true, eqb-false, eq-eqb, ne-eqb}
-use Rattle.meaning.specs.Waiting.{Entry, Found, behind, seek, entryOf, put, without}
+use Rattle.meaning.specs.Waiting.{Entry, terminalsOf, Found, behind, seek, entryOf, put, without}
 use Rattle.meaning.specs.Waiting.Found.{nobody, at}
 use Rattle.meaning.specs.Line.{waits}
-
-abbrev pub terminalsOf : List Entry → List ℕ
-terminalsOf es = map (λ e. e .terminal) es
 
 -- no entry passes the test
 abbrev pub Fails : (Entry → Bool) → List Entry → Type 0

@@ -11,7 +11,7 @@ use Rattle.meaning.specs.Names.{Name, key}
 use Rattle.meaning.specs.Words.{Expr, Begins, names}
 use Rattle.meaning.specs.Positions.{rows, permission, start}
 use Rattle.meaning.specs.Following.{permits}
-use Rattle.meaning.specs.Waiting.{Entry, namesOf}
+use Rattle.meaning.specs.Waiting.{Entry, terminalsOf, namesOf}
 use Rattle.meaning.specs.Calls.{Call, AskReply, FinishReply, refusalIn}
 use Rattle.meaning.specs.Calls.Call.{ask, finish, withdraw}
 use Rattle.meaning.specs.Calls.Reply.{done}
@@ -25,7 +25,7 @@ abbrev pub Runs : Account → ℕ → Type 0
 Runs a t = List·Memᴰ t (a .unfinished)
 
 abbrev pub Waits : Account → ℕ → Type 0
-Waits a t = List·Memᴰ t (map (λ e. e .terminal) (a .waiters))
+Waits a t = List·Memᴰ t (terminalsOf (a .waiters))
 
 -- "No." and "given exactly when", 10 to 15, the lower number first
 pub data Due (known : Name → Bool) (a : Account) : Call → ℕ → Type 0 where
@@ -55,13 +55,14 @@ pub data Finished (permitted : List Name → Bool) (a : Account) (r : FinishRepl
   nobody-goes : ((d : Entry) → List·Memᴰ d (a .waiters) → permitted (grantedNames a ++ d .name ∷ []) ≡ false)
       → r .grants ≡ none → r .examined ≡ length (a .waiters) → Finished permitted a r
 
--- what a withdrawal that is not refused is told: the place of the terminal's entry
+-- what a withdrawal that is not refused is told: the place of the terminal's entry, with none of its own ahead
 pub record Withdrawn (a : Account) (t p : ℕ) : Type 0 where
   pub ahead : List Entry
   pub entry : Entry
   pub after : List Entry
   pub listed : a .waiters ≡ ahead ++ entry ∷ after
   pub own : entry .terminal ≡ t
+  pub none-ahead : ¬ List·Memᴰ t (terminalsOf ahead)
   pub place : p ≡ length ahead
 
 -- demand 3 of what was heard: the grants in order are a permitted history; at most one is unfinished; while none is, nobody

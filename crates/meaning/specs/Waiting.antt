@@ -11,6 +11,9 @@ pub record Entry : Type 0 where
   pub terminal : ℕ
   pub name : Name
 
+abbrev pub terminalsOf : List Entry → List ℕ
+terminalsOf es = map (λ e. e .terminal) es
+
 abbrev pub namesOf : List Entry → List Name
 namesOf es = map (λ e. e .name) es
 

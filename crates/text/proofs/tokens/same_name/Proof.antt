@@ -18,7 +18,7 @@ abbrev μ-loop : tie.MeasureT-loop
 
 returns : tie.Need-returns Inv-loop μ-loop
 unfolding key
-returns c = sym (lengths-differ-is-false _ _ (c .if1 .taken))
+returns c = sym (lengths-differ-is-false (c .before .args .m .now) (c .before .args .n .now) (λ e. omega arith))
 
 loop-holds : tie.Need-loop-holds Inv-loop μ-loop
 unfolding key
