@@ -1,5 +1,6 @@
 -- Proofs of what specs/Promises.antt and specs/LinePromises.antt promise, lowest first.
 pub mod NameLaws
+pub mod OperationLaws
 pub mod SetLaws
 pub mod WordLaws
 pub mod Beginnings

@@ -3,6 +3,7 @@ pub mod Names
 pub mod Words
 pub mod Sets
 pub mod Positions
+pub mod Operations
 pub mod Following
 pub mod Rewriting
 pub mod Waiting

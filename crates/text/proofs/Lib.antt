@@ -6,4 +6,5 @@ pub mod Sames
 pub mod Ways
 pub mod Determined
 pub mod Reading
+pub mod WellFormed
 pub mod Examples

@@ -160,6 +160,14 @@ module _ (s : List ℕ) where
       let empty = ap length (from-ends k (drop k s) e) in
       omega (arith, length-drop k s, span-within blankByte s, from-within k (drop k s), from-forward k (drop k s), from-start k (drop k s))
 
+  -- and nothing but blanks was left
+  pub end-starts-last : nextToken s .token ≡ TextEnd → nextToken s .start ≡ length s
+  unfolding nextToken
+  end-starts-last e =
+      let k = span blankByte s in
+      let empty = ap length (from-ends k (drop k s) e) in
+      omega (arith, length-drop k s, span-within blankByte s, from-start k (drop k s))
+
   pub name-reaches : (n : ℕ) → nextToken s .token ≡ Name n → Named (nextToken s) n
   unfolding nextToken
   name-reaches n e = from-named (span blankByte s) (drop (span blankByte s) s) n e

@@ -1,5 +1,5 @@
 -- The next token of what is left of a text: which it is, where it starts, and how many bytes are used up with it.
-use mathlib.Core.Bool.{Bool, cond, _||_}
+use mathlib.Core.Bool.{Bool, true, false, cond, _&&_, _||_}
 use mathlib.Core.List.{List, [], _∷_}
 use Prim.Native.Nat.{ℕ, suc, _+_}
 use lib.Dec.{eqb, ltb}
@@ -63,3 +63,20 @@ tokenFrom k (b ∷ s) =
 -- "blanks anywhere between tokens and at both ends"
 unfoldable pub nextToken : List ℕ → Read
 nextToken s = tokenFrom (span blankByte s) (drop (span blankByte s) s)
+
+abbrev pub isName : Token → Bool
+isName Semicolon = false
+isName Plus = false
+isName Star = false
+isName Open = false
+isName Close = false
+isName Path = false
+isName End = false
+isName (Name n) = true
+isName TextEnd = false
+isName Bad = false
+isName Long = false
+
+-- the bytes are "well formed" as a name: read as a text, they are one name and nothing else
+unfoldable pub wellFormed : List ℕ → Bool
+wellFormed n = isName (nextToken n .token) && eqb (nextToken n .start) 0 && eqb (nextToken n .used) (length n)

@@ -1,6 +1,6 @@
 // The token reader: what stands next in what is left of a text.
 ghost use mathlib.Core.Path.{_≡_};
-ghost use Rattle.text.specs.Tokens.{span, blankByte, nameByte, sameName, wordToken, signToken, nextToken};
+ghost use Rattle.text.specs.Tokens.{span, blankByte, nameByte, sameName, wordToken, signToken, nextToken, isName, wellFormed};
 use crate::classes::ASTERISK;
 use crate::classes::BLANK;
 use crate::classes::CLOSE;
@@ -159,4 +159,38 @@ pub fn next(s: &[u8]) -> Read
         start: k,
         used: k + 1,
     }
+}
+
+// The token is a name.
+fn is_name(token: Token) -> bool
+    ensures { λ r. ⌜ r ≡ isName token ⌝ }
+{
+    match token {
+        Token::Semicolon => false,
+        Token::Plus => false,
+        Token::Star => false,
+        Token::Open => false,
+        Token::Close => false,
+        Token::Path => false,
+        Token::End => false,
+        Token::Name(_) => true,
+        Token::TextEnd => false,
+        Token::Bad => false,
+        Token::Long => false,
+    }
+}
+
+// The bytes are a name and nothing else.
+pub fn well_formed(n: &[u8]) -> bool
+    ensures { λ r. ⌜ r ≡ wellFormed (now (n .entry)) ⌝ }
+{
+    let r = next(n);
+    if r.start != 0 {
+        return false;
+    }
+    if r.used != n.len() {
+        return false;
+    }
+    let token = r.token;
+    is_name(token)
 }

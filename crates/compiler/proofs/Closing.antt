@@ -1,0 +1,42 @@
+-- The token behind an expression in parentheses: a `)`, or a refusal.
+use mathlib.Core.Path.{_≡_, refl, sym, ap, _∙_}
+use mathlib.Core.Bool.{Bool, true, false, true≢false}
+use mathlib.Core.List.{List}
+use Prim.Native.Nat.{ℕ, _-_, _≤_, _<_}
+use native.Mathlib.Omega.{arith}
+use borrow.Author.Tests.{eq-eqb}
+use lib.ListN.{length, drop}
+use Rattle.text.specs.Tokens.{nextToken}
+use Rattle.text.specs.declared.tokens.Token.the-variants.{Close}
+use Rattle.text.specs.declared.tokens.Read.{Read}
+use Rattle.text.proofs.Reading.{token-moves-on}
+use Rattle.compiler.specs.Reading.{behind, closed, closeBy, halted, isClose, isTextEnd, unfit}
+use Rattle.compiler.specs.declared.readers.Reading.{Reading}
+use Rattle.compiler.proofs.Endings.{behind-fits, behind-starts}
+use Rattle.compiler.proofs.Tails.{slice, slice-drops}
+
+-- u is the token behind what was read
+module _ (s : List ℕ) (e : Reading) (u : Read) (told : u ≡ nextToken (slice s (length s - e .left))) where
+  pub is-behind : u ≡ behind s e
+  is-behind = told ∙ ap nextToken (slice-drops s (length s - e .left))
+
+  pub used-behind : e .left ≤ length s → u .used ≤ e .left
+  used-behind w = rw is-behind (behind-fits s e w)
+
+  pub start-behind : e .left ≤ length s → u .start ≤ e .left
+  start-behind w = rw is-behind (behind-starts s e w)
+
+  pub closed-closes : e .number ≡ 0 → u .token ≡ Close → record { number = 0; left = e .left - u .used; part = e .part } ≡ closed s e
+  unfolding closed
+  closed-closes z t = rw (eq-eqb _ _ z, ← is-behind, t) refl
+
+  pub closed-halts : (r : Reading) → e .number ≡ 0 → isClose (u .token) ≡ false
+      → r ≡ halted (unfit (u .token)) (e .left - u .start) (e .part .table) → r ≡ closed s e
+  unfolding closed
+  closed-halts r z t is = rw (is, eq-eqb _ _ z, ← is-behind, t) refl
+
+  -- any token but the end of the text uses up some of it
+  pub moves-behind : isTextEnd (u .token) ≡ false → 0 < u .used
+  moves-behind n =
+      let at = drop (length s - e .left) s in
+      rw is-behind (omega (arith, token-moves-on at (λ z. true≢false (sym (ap isTextEnd z) ∙ ap (λ (x : Read). isTextEnd (x .token)) (sym is-behind) ∙ n))))

@@ -1,0 +1,16 @@
+pub mod Tails
+pub mod Endings
+pub mod Verdicts
+pub mod Stars
+pub mod Arms
+pub mod Starry
+pub mod Closing
+pub mod Factors
+pub mod Parentheses
+pub mod FactorPaths
+pub mod Joining
+pub mod Sequences
+pub mod Expressions
+pub mod Wholes
+pub mod Concluding
+pub mod CompiledTexts

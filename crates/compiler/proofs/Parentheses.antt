@@ -1,0 +1,223 @@
+-- A factor that is an expression in parentheses: the machine steps inside, the expression's reader takes it to where the `)` has to stand,
+-- and the `)` takes it out again.
+use mathlib.Core.Path.{_≡_, refl, sym, ap, subst, _∙_}
+use mathlib.Core.Bool.{Bool, true, false, cond, true≢false}
+use mathlib.Core.List.{List, [], _∷_, _++_}
+use mathlib.Core.Logic.{_⊎_, inl, inr}
+use mathlib.Core.Option.{none}
+use Prim.Native.Nat.{ℕ, zero, suc, _+_, _-_, _≤_, _<_}
+use native.Mathlib.Omega.{arith}
+use borrow.Author.Tests.{eq-eqb, ne-eqb, lt-leb}
+use lib.Dec.{eqb, leb}
+use lib.ListN.{length, drop, length-drop}
+use Rattle.meaning.specs.Names.{Name}
+use Rattle.meaning.specs.Words.{Expr, names}
+use Rattle.text.specs.Tokens.{nextToken}
+use Rattle.text.specs.declared.tokens.Token.{Token}
+use Rattle.text.specs.declared.tokens.Token.the-variants.{Semicolon, Plus, Star, Open, Close, Path, End, Name as Named, TextEnd, Bad, Long}
+use Rattle.text.specs.declared.tokens.Read.{Read}
+use Rattle.text.proofs.Reading.{start-within-used, used-within-text, token-moves-on}
+use Rattle.grammar.specs.Symbols.Symbol.{closing}
+use Rattle.grammar.specs.Machine.{Left, State, stepTo, haveStep, depthOf, limitAt, namesOn, stepped, limited, nothingLeft, sumTo}
+use Rattle.grammar.specs.Machine.State.{wanting, having}
+use Rattle.grammar.specs.Machine.Verdict.{refused}
+use Rattle.table.specs.declared.cells.Table.{Table}
+use Rattle.parts.specs.Progress.{noted, Fine, partOf, starTimes}
+use Rattle.parts.proofs.Laws.{part-stars, names-starred}
+use Rattle.compiler.specs.Reading.{Tail, Goes, Stops, Starry, FactorRead, ExpressionRead, Part-read, verdict, behind, endsFactor, endsExpression, isClose, closed, halted, noneBefore, Either-way, unfit}
+use Rattle.compiler.specs.declared.readers.Before.{Before}
+use Rattle.compiler.specs.declared.readers.Reading.{Reading}
+use Rattle.compiler.proofs.Tails.{slice, slice-drops, tail-drop}
+use Rattle.compiler.proofs.Verdicts.{is-closing, place, verdict-symbol, verdict-stuck}
+use Rattle.compiler.proofs.Endings.{behind-part, ending, ending-size, ending-tail}
+use Rattle.compiler.proofs.Factors.{opened, limited-goes, unfit-some, unclosed-stuck}
+
+-- only `)` closes
+is-closed : (T : Token) → isClose T ≡ true → T ≡ Close
+is-closed Semicolon h = absurd (true≢false (sym h))
+is-closed Plus h = absurd (true≢false (sym h))
+is-closed Star h = absurd (true≢false (sym h))
+is-closed Open h = absurd (true≢false (sym h))
+is-closed Close h = refl
+is-closed Path h = absurd (true≢false (sym h))
+is-closed End h = absurd (true≢false (sym h))
+is-closed (Named n) h = absurd (true≢false (sym h))
+is-closed TextEnd h = absurd (true≢false (sym h))
+is-closed Bad h = absurd (true≢false (sym h))
+is-closed Long h = absurd (true≢false (sym h))
+
+-- a `(` does not end the text
+pub open-moves : (s : List ℕ) → nextToken s .token ≡ Open → nextToken s .token ≡ TextEnd → ⊥
+open-moves s e w = let z : _≡_ {A = ℕ} 0 1 = cc in omega arith
+
+-- closing reads no byte again
+pub closed-left : (s : List ℕ) (e : Reading) → closed s e .left ≤ e .left
+unfolding closed
+closed-left s e = go (eqb (e .number) 0) (isClose (behind s e .token))
+  where
+    go : (z c : Bool) → cond z (cond c (record { number = 0; left = e .left - behind s e .used; part = e .part })
+        (halted (unfit (behind s e .token)) (e .left - behind s e .start) (e .part .table))) e .left ≤ e .left
+    go true true = omega arith
+    go true false = omega arith
+    go false c = omega arith
+
+module _ (s : List ℕ) (d : ℕ) (t : Table) (is-open : nextToken s .token ≡ Open) (shallow : d < 16) (none-yet : Before) (is-none : none-yet ≡ noneBefore t) (e : Reading) (told : ExpressionRead (slice s (nextToken s .used)) (d + 1) none-yet e) where
+  inside : List ℕ
+  inside = drop (nextToken s .used) s
+
+  size-inside : length inside ≡ length s - nextToken s .used
+  unfolding inside
+  size-inside = length-drop (nextToken s .used) s
+
+  inner : ExpressionRead inside (d + 1) (noneBefore t) e
+  unfolding inside
+  inner =
+      subst (λ (b : Before). ExpressionRead (drop (nextToken s .used) s) (d + 1) b e) is-none
+      (subst (λ (v : List ℕ). ExpressionRead v (d + 1) none-yet e) (slice-drops s (nextToken s .used)) told)
+
+  within-all : e .left ≤ length s
+  within-all = omega (arith, inner .within, size-inside)
+
+  less : nextToken s .start < nextToken s .used
+  less = token-moves-on s (open-moves s is-open)
+
+  -- the machine steps inside
+  enters : (text : List ℕ) (ks : List Left) → Tail text s → length ks ≡ d → (l : Left) (ns : List Name)
+      → verdict text (length s) (wanting l ks) ns ≡ verdict text (length inside) (wanting nothingLeft (l ∷ ks)) ns
+  enters text ks h k l ns =
+      let low : _≡_ {A = ℕ} (cond (leb 16 (length ks)) 5 0) 0 = rw (lt-leb 16 (length ks) (omega (arith, k))) refl in
+      opened s d t text ks h is-open l ns ∙ limited-goes _ (place text s) _ low
+      ∙ ap (λ (j : ℕ). verdict text j (wanting nothingLeft (l ∷ ks)) ns) (sym size-inside)
+
+  tail-inside : (text : List ℕ) → Tail text s → Tail text inside
+  unfolding inside
+  tail-inside text h = tail-drop text s h (nextToken s .used) (used-within-text s)
+
+  behind-inside : behind inside e ≡ behind s e
+  unfolding inside
+  behind-inside = behind-part s (nextToken s .used) e (used-within-text s) (omega (arith, inner .within, size-inside))
+
+  closed-stays : (e .number ≡ 0 → ⊥) → closed s e ≡ e
+  unfolding closed
+  closed-stays some = rw (ne-eqb _ _ some) refl
+
+  closed-if : e .number ≡ 0 → isClose (behind s e .token) ≡ true
+      → closed s e ≡ record { number = 0; left = e .left - behind s e .used; part = e .part }
+  unfolding closed
+  closed-if z c = rw (eq-eqb _ _ z, c) refl
+
+  closed-not : e .number ≡ 0 → isClose (behind s e .token) ≡ false
+      → closed s e ≡ halted (unfit (behind s e .token)) (e .left - behind s e .start) (e .part .table)
+  unfolding closed
+  closed-not z c = rw (eq-eqb _ _ z, c) refl
+
+  -- the `)` takes the machine out
+  leaves : (text : List ℕ) → Tail text s → behind s e .token ≡ Close → (l k : Left) (f : Expr) (ks : List Left) (ns : List Name)
+      → verdict text (e .left) (having l f (k ∷ ks)) ns ≡ verdict text (e .left - behind s e .used) (having k (sumTo l f) ks) ns
+  unfolding stepTo haveStep depthOf limitAt namesOn stepped limited ending
+  leaves text h c l k f ks ns =
+      ap (λ (j : ℕ). verdict text j (having l f (k ∷ ks)) ns) (sym (ending-size s e within-all))
+      ∙ verdict-symbol text (ending s e within-all) (ending-tail s e within-all text h) Close closing c (is-closing _) (having l f (k ∷ ks)) ns
+      ∙ ap (λ (j : ℕ). verdict text (j - behind s e .used) (having k (sumTo l f) ks) ns) (ending-size s e within-all)
+
+  -- and anything else is refused
+  stuck : (text : List ℕ) → Tail text s → endsExpression (behind s e .token) ≡ true → isClose (behind s e .token) ≡ false
+      → (l k : Left) (f : Expr) (ks : List Left) (ns : List Name)
+      → verdict text (e .left) (having l f (k ∷ ks)) ns ≡ refused (unfit (behind s e .token)) (length text - (e .left - behind s e .start))
+  unfolding ending
+  stuck text h ended c l k f ks ns =
+      ap (λ (j : ℕ). verdict text j (having l f (k ∷ ks)) ns) (sym (ending-size s e within-all))
+      ∙ verdict-stuck text (ending s e within-all) (ending-tail s e within-all text h) (having l f (k ∷ ks)) ns (unclosed-stuck l k f ks (behind s e .token) _ ended c)
+      ∙ ap (λ (j : ℕ). refused (unfit (behind s e .token)) (length text - (j - behind s e .start))) (ending-size s e within-all)
+
+  -- what the reader of factors answers: the expression, closed, with its stars
+  module _ (q r : Reading) (is-closed-of : q ≡ closed s e) (starry : Starry s q r) where
+    -- a refusal inside is a refusal of the whole
+    refused-inside : (ns : List Name) → (e .number ≡ 0 → ⊥) → Stops inside e (d + 1) (λ ks. wanting nothingLeft ks) ns
+        → (r .number ≡ 0 → ⊥) × ((l : Left) → Stops s r d (λ ks. wanting l ks) ns)
+    refused-inside ns some stops =
+        let q-is : q ≡ e = is-closed-of ∙ closed-stays some in
+        let r-is : r ≡ e = starry .refused-stays (λ z. some (ap (λ (x : Reading). x .number) (sym q-is) ∙ z)) ∙ q-is in
+        subst (λ (x : Reading). (x .number ≡ 0 → ⊥) × ((l : Left) → Stops s x d (λ ks. wanting l ks) ns)) (sym r-is)
+        (some, λ l text ks h k. enters text ks h k l ns ∙ stops text (l ∷ ks) (tail-inside text h) (omega (arith, k)))
+
+    -- so is anything but a `)` behind the expression
+    refused-unclosed : (ns ns′ : List Name) (l′ : Left) (f : Expr) → e .number ≡ 0 → endsExpression (behind s e .token) ≡ true
+        → isClose (behind s e .token) ≡ false
+        → Goes inside (e .left) (d + 1) (λ ks. wanting nothingLeft ks) ns (λ ks. having l′ f ks) ns′
+        → (r .number ≡ 0 → ⊥) × ((l : Left) → Stops s r d (λ ks. wanting l ks) ns)
+    refused-unclosed ns ns′ l′ f z ended c goes =
+        let T = behind s e .token in
+        let q-is : q ≡ halted (unfit T) (e .left - behind s e .start) (e .part .table) = is-closed-of ∙ closed-not z c in
+        let r-is : r ≡ halted (unfit T) (e .left - behind s e .start) (e .part .table)
+        = starry .refused-stays (λ w. unfit-some T (ap (λ (x : Reading). x .number) (sym q-is) ∙ w)) ∙ q-is in
+        subst (λ (x : Reading). (x .number ≡ 0 → ⊥) × ((l : Left) → Stops s x d (λ ks. wanting l ks) ns)) (sym r-is) (
+          unfit-some T,
+          λ l text ks h k.
+              enters text ks h k l ns ∙ goes text (l ∷ ks) (tail-inside text h) (omega (arith, k)) ∙ stuck text h ended c l′ l f ks ns′,
+        )
+
+    -- behind the `)` the expression is a factor, starred as often as stars follow
+    read-closed : (ns : List Name) (rs : List ℕ) (l′ : Left) (f : Expr) → e .number ≡ 0 → isClose (behind s e .token) ≡ true
+        → Part-read inside e endsExpression ns rs (sumTo l′ f)
+        → Goes inside (e .left) (d + 1) (λ ks. wanting nothingLeft ks) ns (λ ks. having l′ f ks) (ns ++ names (sumTo l′ f))
+        → (r .number ≡ 0) × ((g : Expr) × Part-read s r endsFactor ns rs g
+        × ((l : Left) → Goes s (r .left) d (λ ks. wanting l ks) ns (λ ks. having l g ks) (ns ++ names g)))
+    read-closed ns rs l′ f z c read goes =
+        let q-is : q ≡ record { number = 0; left = e .left - behind s e .used; part = e .part } = is-closed-of ∙ closed-if z c in
+        let q-none : q .number ≡ 0 = ap (λ (x : Reading). x .number) q-is in
+        let q-left : q .left ≡ e .left - behind s e .used = ap (λ (x : Reading). x .left) q-is in
+        let whole = sumTo l′ f in
+        let g = starTimes (starry .times) whole in
+        let all : ns ++ names g ≡ ns ++ names whole = ap (λ (w : List Name). ns ++ w) (names-starred (starry .times) whole) in
+        let part-of : q .part ≡ partOf whole ns rs = ap (λ (x : Reading). x .part) q-is ∙ read .part in (
+          starry .number-stays ∙ q-none,
+          (
+            g,
+            record {
+              part = starry .part-starred q-none ∙ rw part-of (part-stars (starry .times) whole ns rs);
+              fine = subst Fine (sym all) (read .fine);
+              ended = starry .ends q-none;
+            },
+            λ l text ks h k.
+                enters text ks h k l ns ∙ goes text (l ∷ ks) (tail-inside text h) (omega (arith, k))
+                ∙ leaves text h (is-closed (behind s e .token) c) l′ l f ks (ns ++ names whole)
+                ∙ ap (λ (j : ℕ). verdict text j (having l whole ks) (ns ++ names whole)) (sym q-left)
+                ∙ starry .goes q-none l whole d (ns ++ names whole) text ks h k
+                ∙ ap (verdict text (r .left) (having l g ks)) (sym all),
+          ),
+        )
+
+    left-inside : r .left ≤ e .left
+    left-inside = omega (arith, starry .within, closed-left s e, ap (λ (x : Reading). x .left) is-closed-of)
+
+    pub factor-open : FactorRead s d t r
+    factor-open =
+        record {
+          within = omega (arith, within-all, left-inside);
+          fewer = λ _. omega (arith, left-inside, inner .within, size-inside, less, used-within-text s);
+          outcome = λ ns rs same fine. by-outcome ns rs (inner .outcome none ns rs (refl, same) fine);
+        }
+      where
+        by-close : (ns : List Name) (rs : List ℕ) (l′ : Left) (f : Expr) → e .number ≡ 0
+            → Part-read inside e endsExpression ns rs (sumTo l′ f)
+            → Goes inside (e .left) (d + 1) (λ ks. wanting nothingLeft ks) ns (λ ks. having l′ f ks) (ns ++ names (sumTo l′ f))
+            → (b : Bool) → isClose (behind s e .token) ≡ b
+            → Either-way r ((g : Expr) × Part-read s r endsFactor ns rs g
+            × ((l : Left) → Goes s (r .left) d (λ ks. wanting l ks) ns (λ ks. having l g ks) (ns ++ names g)))
+            ((l : Left) → Stops s r d (λ ks. wanting l ks) ns)
+        by-close ns rs l′ f z read goes true c = inl (read-closed ns rs l′ f z c read goes)
+        by-close ns rs l′ f z read goes false c =
+            inr
+            (refused-unclosed ns (ns ++ names (sumTo l′ f)) l′ f z
+            (ap (λ (x : Read). endsExpression (x .token)) (sym behind-inside) ∙ read .ended) c goes)
+
+        by-outcome : (ns : List Name) (rs : List ℕ)
+            → Either-way e ((l : Left) × (f : Expr) × Part-read inside e endsExpression ns rs (sumTo l f)
+            × Goes inside (e .left) (d + 1) (λ ks. wanting nothingLeft ks) ns (λ ks. having l f ks) (ns ++ names (sumTo l f)))
+            (Stops inside e (d + 1) (λ ks. wanting nothingLeft ks) ns)
+            → Either-way r ((g : Expr) × Part-read s r endsFactor ns rs g
+            × ((l : Left) → Goes s (r .left) d (λ ks. wanting l ks) ns (λ ks. having l g ks) (ns ++ names g)))
+            ((l : Left) → Stops s r d (λ ks. wanting l ks) ns)
+        by-outcome ns rs (inl (z, (l′, f, read, goes))) = by-close ns rs l′ f z read goes (isClose (behind s e .token)) refl
+        by-outcome ns rs (inr (some, stops)) = inr (refused-inside ns some stops)

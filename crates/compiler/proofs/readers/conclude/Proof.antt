@@ -1,0 +1,60 @@
+use borrow.Author.Needs.{needs}
+use native.Mathlib.Omega.{arith}
+use Rattle.compiler.proofs.Arms.{not-text-end}
+use Rattle.compiler.proofs.Concluding.{concluded-accepts, concluded-refuses}
+use Rattle.compiler.proofs.FactorPaths.{start-fits}
+use Rattle.compiler.proofs.readers.conclude.Statement.{statement}
+use Rattle.compiler.proofs.readers.conclude.Tie as tie
+use Rattle.compiler.proofs.readers.conclude.Reads as reads
+use Rattle.compiler.proofs.readers.conclude.Lts as lts
+use Rattle.compiler.proofs.readers.number_of.Reads as number-of-reads
+use Rattle.compiler.proofs.readers.refuse.Reads as refuse-reads
+use Rattle.parts.proofs.joining.complete.Reads as complete-reads
+use Rattle.text.proofs.tokens.next.Reads as next-reads
+
+-- src/readers.rt:317:9
+next-requires : tie.Need-next-requires
+next-requires c κs = search needs
+
+-- src/readers.rt:321:17
+enum-told : tie.Need-enum-told
+enum-told c = search needs
+
+-- src/readers.rt:321:17
+complete-requires : tie.Need-complete-requires
+complete-requires c κs = search needs
+
+-- src/readers.rt:327:21
+number-of-requires : tie.Need-number-of-requires
+number-of-requires c κs = search needs
+
+-- src/readers.rt:327:39
+add-refuse : tie.Need-add-refuse
+add-refuse c = omega (arith, c .before .before .before .before .before .pre, start-fits _ _ (c .before .before .before .next .ensures))
+
+-- src/readers.rt:327:14
+refuse-requires : tie.Need-refuse-requires
+refuse-requires c κs = search needs
+
+-- src/readers.rt:313:1
+returns : tie.Need-returns
+returns c = concluded-accepts _ _ _ _ (c .before .before .before .next .ensures) (c .before .enum-told .given .1) _ (c .complete .ensures)
+
+-- src/readers.rt:313:1
+returns-2 : tie.Need-returns-2
+returns-2 c =
+    concluded-refuses _ _ _ _ (c .before .before .before .before .next .ensures) (not-text-end (c .before .before .before .before .next .result .token) (c .before .before .before .match .keys2)) _
+    (simp (c .refuse .ensures, c .before .before .number-of .ensures))
+
+pub conclude-spec : {M : Type 1} → statement M
+conclude-spec =
+    tie.close
+    (tie.spec
+    next-requires
+    enum-told
+    complete-requires
+    number-of-requires
+    add-refuse
+    refuse-requires
+    returns
+    returns-2)

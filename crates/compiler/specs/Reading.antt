@@ -1,0 +1,282 @@
+-- What the readers promise each other, in terms of the machine of crates/grammar: reading a part takes the machine from one state to
+-- another, or to a refusal. Nothing here needs to be believed: the contract of `compile` is in Compiling.antt.
+use mathlib.Core.Path.{_≡_}
+use mathlib.Core.Bool.{Bool, true, false, cond, not}
+use mathlib.Core.List.{List, [], _∷_, _++_}
+use mathlib.Core.Logic.{_⊎_}
+use mathlib.Core.Option.{Option, some, none}
+use Prim.Native.Nat.{ℕ, _+_, _-_, _≤_, _<_}
+use lib.Dec.{eqb}
+use lib.ListN.{length, drop}
+use Rattle.meaning.specs.Names.{Name}
+use Rattle.meaning.specs.Words.{Expr, names}
+use Rattle.text.specs.Tokens.{nextToken}
+use Rattle.text.specs.declared.tokens.Token.{Token}
+use Rattle.text.specs.declared.tokens.Token.the-variants.{Semicolon, Plus, Star, Open, Close, Path, End, Name as Named, TextEnd, Bad, Long}
+use Rattle.text.specs.declared.tokens.Read.{Read}
+use Rattle.grammar.specs.Symbols.{itemsFrom}
+use Rattle.grammar.specs.Machine.{Left, State, Verdict, judgeFrom, thenAfter, sumTo}
+use Rattle.grammar.specs.Machine.State.{wanting, having}
+use Rattle.grammar.specs.Machine.Verdict.{refused}
+use Rattle.table.specs.Cells.{zeros}
+use Rattle.table.specs.declared.cells.Table.{Table}
+use Rattle.parts.specs.declared.joining.Part.{Part}
+use Rattle.parts.specs.Parts.{either, then, starred, completed}
+use Rattle.parts.specs.Progress.{noted, Fine, partOf, rowsAfter, starTimes}
+use Rattle.compiler.specs.declared.replies.Compiled.{Compiled}
+use Rattle.compiler.specs.declared.replies.Reply.the-variants.{Accepted as Accepts, Refused as Refuses}
+use Rattle.compiler.specs.declared.readers.Reading.{Reading}
+use Rattle.compiler.specs.declared.readers.Before.{Before}
+use Rattle.compiler.specs.declared.readers.Starring.{Starring}
+
+-- the number by which a token is refused where it does not fit
+abbrev pub unfit : Token → ℕ
+unfit Semicolon = 4
+unfit Plus = 4
+unfit Star = 4
+unfit Open = 4
+unfit Close = 4
+unfit Path = 4
+unfit End = 4
+unfit (Named n) = 4
+unfit TextEnd = 4
+unfit Bad = 2
+unfit Long = 3
+
+abbrev pub halted : ℕ → ℕ → Table → Reading
+halted n left t = record { number = n; left = left; part = record { empty = false; first = 0; last = 0; table = t } }
+
+abbrev pub withPart : Reading → Part → Reading
+withPart r p = record { number = r .number; left = r .left; part = p }
+
+unfoldable pub thenRead : Before → Reading → Reading
+thenRead l r = cond (l .some) (withPart r (then (l .part) (r .part))) r
+
+unfoldable pub orRead : Before → Reading → Reading
+orRead l r = cond (l .some) (withPart r (either (l .part) (r .part))) r
+
+-- the token behind what was read
+abbrev pub behind : List ℕ → Reading → Read
+behind s r = nextToken (drop (length s - r .left) s)
+
+abbrev pub isClose : Token → Bool
+isClose Semicolon = false
+isClose Plus = false
+isClose Star = false
+isClose Open = false
+isClose Close = true
+isClose Path = false
+isClose End = false
+isClose (Named n) = false
+isClose TextEnd = false
+isClose Bad = false
+isClose Long = false
+
+-- e, and the `)` behind it, or the refusal of what stands there instead
+abbrev pub closeBy : Reading → Read → Reading
+closeBy e u =
+    cond (isClose (u .token)) (record { number = 0; left = e .left - u .used; part = e .part })
+    (halted (unfit (u .token)) (e .left - u .start) (e .part .table))
+
+unfoldable pub closed : List ℕ → Reading → Reading
+closed s e = cond (eqb (e .number) 0) (closeBy e (behind s e)) e
+
+abbrev pub isPath : Token → Bool
+isPath Semicolon = false
+isPath Plus = false
+isPath Star = false
+isPath Open = false
+isPath Close = false
+isPath Path = true
+isPath End = false
+isPath (Named n) = false
+isPath TextEnd = false
+isPath Bad = false
+isPath Long = false
+
+abbrev pub isEnd : Token → Bool
+isEnd Semicolon = false
+isEnd Plus = false
+isEnd Star = false
+isEnd Open = false
+isEnd Close = false
+isEnd Path = false
+isEnd End = true
+isEnd (Named n) = false
+isEnd TextEnd = false
+isEnd Bad = false
+isEnd Long = false
+
+abbrev pub isTextEnd : Token → Bool
+isTextEnd Semicolon = false
+isTextEnd Plus = false
+isTextEnd Star = false
+isTextEnd Open = false
+isTextEnd Close = false
+isTextEnd Path = false
+isTextEnd End = false
+isTextEnd (Named n) = false
+isTextEnd TextEnd = true
+isTextEnd Bad = false
+isTextEnd Long = false
+
+-- a refused compile
+abbrev pub refusedAt : ℕ → ℕ → Compiled
+refusedAt n k = record { reply = Refuses (record { number = n; place = k }); table = zeros }
+
+-- the whole path, where nothing but s is left, from place k on
+abbrev pub concludeBy : Read → ℕ → Part → Compiled
+concludeBy u k p = cond (isTextEnd (u .token)) (record { reply = Accepts; table = completed p }) (refusedAt (unfit (u .token)) (k + u .start))
+
+unfoldable pub concluded : List ℕ → ℕ → Part → Compiled
+concluded s k p = concludeBy (nextToken s) k p
+
+-- the expression of the text, and the `end` behind it
+abbrev pub endBy : List ℕ → Reading → ℕ → Read → Compiled
+endBy text e k u = cond (isEnd (u .token)) (concluded (drop (k + u .used) text) (k + u .used) (e .part)) (refusedAt (unfit (u .token)) (k + u .start))
+
+unfoldable pub ended : List ℕ → Reading → Compiled
+ended text e =
+    cond (eqb (e .number) 0) (endBy text e (length text - e .left) (behind text e)) (refusedAt (e .number) (length text - e .left))
+
+-- what a token behind a factor, a sequence or an expression cannot be
+abbrev pub endsFactor : Token → Bool
+endsFactor Star = false
+endsFactor Semicolon = true
+endsFactor Plus = true
+endsFactor Open = true
+endsFactor Close = true
+endsFactor Path = true
+endsFactor End = true
+endsFactor (Named n) = true
+endsFactor TextEnd = true
+endsFactor Bad = true
+endsFactor Long = true
+
+abbrev pub endsSequence : Token → Bool
+endsSequence Star = false
+endsSequence Semicolon = false
+endsSequence Plus = true
+endsSequence Open = false
+endsSequence Close = true
+endsSequence Path = true
+endsSequence End = true
+endsSequence (Named n) = false
+endsSequence TextEnd = true
+endsSequence Bad = true
+endsSequence Long = true
+
+abbrev pub endsExpression : Token → Bool
+endsExpression Star = false
+endsExpression Semicolon = false
+endsExpression Plus = false
+endsExpression Open = false
+endsExpression Close = true
+endsExpression Path = true
+endsExpression End = true
+endsExpression (Named n) = false
+endsExpression TextEnd = true
+endsExpression Bad = true
+endsExpression Long = true
+
+-- the text, from where `left` bytes are unread
+abbrev pub rest : List ℕ → ℕ → List ℕ
+rest text left = drop (length text - left) text
+
+-- s is what is left of a text
+pub record Tail (text s : List ℕ) : Type 0 where
+  pub within : length s ≤ length text
+  pub same : s ≡ rest text (length s)
+
+-- what the machine says of a text of which `left` bytes are unread
+unfoldable pub verdict : List ℕ → ℕ → State → List Name → Verdict
+verdict text left st ns = judgeFrom (length text) (itemsFrom (length text - left) (rest text left)) st ns
+
+-- reading from s to where r stands takes the machine, whatever parentheses are open around it, from one state to another ..
+abbrev pub Goes : List ℕ → ℕ → ℕ → (List Left → State) → List Name → (List Left → State) → List Name → Type 0
+Goes s left d from ns to ns′ =
+    (text : List ℕ) (ks : List Left) → Tail text s → length ks ≡ d → verdict text (length s) (from ks) ns ≡ verdict text left (to ks) ns′
+
+-- .. or to a refusal
+abbrev pub Stops : List ℕ → Reading → ℕ → (List Left → State) → List Name → Type 0
+Stops s r d from ns =
+    (text : List ℕ) (ks : List Left) → Tail text s → length ks ≡ d
+    → verdict text (length s) (from ks) ns ≡ refused (r .number) (length text - r .left)
+
+-- stars were read from the front of s, and none stands behind them
+pub record Starred (s : List ℕ) (r : Starring) : Type 0 where
+  pub within : r .used ≤ length s
+  pub times : ℕ
+  pub any-if : r .any ≡ not (eqb times 0)
+  pub none-if : r .any ≡ false → r .used ≡ 0
+  pub ends : endsFactor (nextToken (drop (r .used) s) .token) ≡ true
+  pub goes : (l : Left) (f : Expr) (d : ℕ) (ns : List Name)
+      → Goes s (length s - r .used) d (λ ks. having l f ks) ns (λ ks. having l (starTimes times f) ks) ns
+
+-- p with its stars
+pub record Starry (s : List ℕ) (p r : Reading) : Type 0 where
+  pub within : r .left ≤ p .left
+  pub refused-stays : (p .number ≡ 0 → ⊥) → r ≡ p
+  pub times : ℕ
+  pub number-stays : r .number ≡ p .number
+  pub part-starred : p .number ≡ 0 → r .part ≡ cond (eqb times 0) (p .part) (starred (p .part))
+  pub ends : p .number ≡ 0 → endsFactor (behind s r .token) ≡ true
+  pub goes : p .number ≡ 0 → (l : Left) (f : Expr) (d : ℕ) (ns : List Name) (text : List ℕ) (ks : List Left) → Tail text s → length ks ≡ d
+      → verdict text (p .left) (having l f ks) ns ≡ verdict text (r .left) (having l (starTimes times f) ks) ns
+
+-- the part e was read behind the names ns, with the rows rs
+pub record Part-read (s : List ℕ) (r : Reading) (ends : Token → Bool) (ns : List Name) (rs : List ℕ) (e : Expr) : Type 0 where
+  pub part : r .part ≡ partOf e ns rs
+  pub fine : Fine (ns ++ names e)
+  pub ended : ends (behind s r .token) ≡ true
+
+-- the names and the rows behind an expression, if there is one
+abbrev pub namesPast : Option Expr → List Name → List Name
+namesPast none ns = ns
+namesPast (some e) ns = ns ++ names e
+
+abbrev pub rowsPast : Option Expr → List Name → List ℕ → List ℕ
+rowsPast none ns rs = rs
+rowsPast (some e) ns rs = rowsAfter e (length ns) rs
+
+-- what stands before is the expression, if there is one, read behind the names ns with the rows rs
+abbrev pub Stands : Before → Option Expr → List Name → List ℕ → Type 0
+Stands b none ns rs = (b .some ≡ false) × (b .part .table ≡ noted ns rs)
+Stands b (some e) ns rs = (b .some ≡ true) × (b .part ≡ partOf e ns rs)
+
+abbrev pub noneBefore : Table → Before
+noneBefore t = record { some = false; part = record { empty = false; first = 0; last = 0; table = t } }
+
+-- a reading is one of two: a part, or a refusal
+abbrev pub Either-way : Reading → Type 0 → Type 0 → Type 0
+Either-way r goes stops = ((r .number ≡ 0) × goes) ⊎ ((r .number ≡ 0 → ⊥) × stops)
+
+abbrev pub onSum : Option Expr → Option Expr → Left
+onSum s r = record { sum = s; run = r }
+
+pub record FactorRead (s : List ℕ) (d : ℕ) (t : Table) (r : Reading) : Type 0 where
+  pub within : r .left ≤ length s
+  pub fewer : r .number ≡ 0 → r .left < length s
+  pub outcome : (ns : List Name) (rs : List ℕ) → t ≡ noted ns rs → Fine ns
+      → Either-way r
+      ((f : Expr) × Part-read s r endsFactor ns rs f
+      × ((l : Left) → Goes s (r .left) d (λ ks. wanting l ks) ns (λ ks. having l f ks) (ns ++ names f)))
+      ((l : Left) → Stops s r d (λ ks. wanting l ks) ns)
+
+pub record SequenceRead (s : List ℕ) (d : ℕ) (b : Before) (r : Reading) : Type 0 where
+  pub within : r .left ≤ length s
+  pub outcome : (run : Option Expr) (ns : List Name) (rs : List ℕ) → Stands b run ns rs → Fine (namesPast run ns)
+      → Either-way r
+      ((run′ : Option Expr) × (f : Expr) × Part-read s r endsSequence ns rs (thenAfter run′ f)
+      × ((sum : Option Expr)
+      → Goes s (r .left) d (λ ks. wanting (onSum sum run) ks) (namesPast run ns)
+      (λ ks. having (onSum sum run′) f ks) (ns ++ names (thenAfter run′ f))))
+      ((sum : Option Expr) → Stops s r d (λ ks. wanting (onSum sum run) ks) (namesPast run ns))
+
+pub record ExpressionRead (s : List ℕ) (d : ℕ) (b : Before) (r : Reading) : Type 0 where
+  pub within : r .left ≤ length s
+  pub outcome : (sum : Option Expr) (ns : List Name) (rs : List ℕ) → Stands b sum ns rs → Fine (namesPast sum ns)
+      → Either-way r
+      ((l : Left) × (f : Expr) × Part-read s r endsExpression ns rs (sumTo l f)
+      × Goes s (r .left) d (λ ks. wanting (onSum sum none) ks) (namesPast sum ns) (λ ks. having l f ks) (ns ++ names (sumTo l f)))
+      (Stops s r d (λ ks. wanting (onSum sum none) ks) (namesPast sum ns))

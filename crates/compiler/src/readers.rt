@@ -1,0 +1,370 @@
+// The three readers, and the compiler above them. Each reads from the front of what is left of the text and says how many bytes it
+// leaves unread, so that the answer of what it calls last is its own.
+ghost use mathlib.Core.Path.{_≡_};
+ghost use Prim.Native.Nat.{_+_, _≤_};
+ghost use lib.ListN.{length};
+ghost use Rattle.compiler.specs.Reading.{unfit, halted, noneBefore, closed, thenRead, orRead, refusedAt, concluded, ended, Starred, Starry, FactorRead, SequenceRead, ExpressionRead};
+ghost use Rattle.compiler.specs.Compiling.{Compiles};
+use crate::replies::Compiled;
+use crate::replies::Refusal;
+use crate::replies::Reply;
+use parts::joining::Part;
+use parts::joining::complete;
+use parts::joining::either_part;
+use parts::joining::star_part;
+use parts::joining::then_part;
+use parts::placing::place;
+use table::cells::Table;
+use table::cells::no_table;
+use text::tokens::Token;
+use text::tokens::next;
+
+// A part, with `left` bytes unread behind it; or, where the number is not 0, a refusal with `left` bytes from its place on.
+pub struct Reading {
+    pub number: u8,
+    pub left: usize,
+    pub part: Part,
+}
+
+// What stands before the place within one pair of parentheses: a part, or nothing but the table so far.
+pub struct Before {
+    pub some: bool,
+    pub part: Part,
+}
+
+// Whether any `*` was read, and how many bytes were used up by them.
+pub struct Starring {
+    pub any: bool,
+    pub used: usize,
+}
+
+// The number by which a token is refused where it does not fit.
+fn number_of(token: Token) -> u8
+    ensures { λ r. ⌜ r ≡ unfit token ⌝ }
+{
+    match token {
+        Token::Semicolon => 4,
+        Token::Plus => 4,
+        Token::Star => 4,
+        Token::Open => 4,
+        Token::Close => 4,
+        Token::Path => 4,
+        Token::End => 4,
+        Token::Name(_) => 4,
+        Token::TextEnd => 4,
+        Token::Bad => 2,
+        Token::Long => 3,
+    }
+}
+
+// A refusal.
+fn halt(number: u8, left: usize, t: Table) -> Reading
+    ensures { λ r. ⌜ r ≡ halted number left t ⌝ }
+{
+    Reading {
+        number: number,
+        left: left,
+        part: Part {
+            empty: false,
+            first: 0,
+            last: 0,
+            table: t,
+        },
+    }
+}
+
+// Nothing but the table so far.
+fn nothing(t: Table) -> Before
+    ensures { λ r. ⌜ r ≡ noneBefore t ⌝ }
+{
+    Before {
+        some: false,
+        part: Part {
+            empty: false,
+            first: 0,
+            last: 0,
+            table: t,
+        },
+    }
+}
+
+// The sequence before r, and then r.
+fn then_after(l: Before, r: Reading) -> Reading
+    ensures { λ q. ⌜ q ≡ thenRead l r ⌝ }
+{
+    if l.some {
+        let a = l.part;
+        let b = r.part;
+        let part = then_part(a, b);
+        return Reading {
+            number: r.number,
+            left: r.left,
+            part: part,
+        };
+    }
+    r
+}
+
+// The sum before r, or r.
+fn or_after(l: Before, r: Reading) -> Reading
+    ensures { λ q. ⌜ q ≡ orRead l r ⌝ }
+{
+    if l.some {
+        let a = l.part;
+        let b = r.part;
+        let part = either_part(a, b);
+        return Reading {
+            number: r.number,
+            left: r.left,
+            part: part,
+        };
+    }
+    r
+}
+
+// Any number of `*`, in a loop: thousands of them must not deepen the stack.
+fn stars(s: &[u8]) -> Starring
+    ensures { λ r. ⌜ Starred (now (s .entry)) r ⌝ }
+{
+    let mut any = false;
+    let mut used: usize = 0;
+    loop {
+        let r = next(&s[used..]);
+        let token = r.token;
+        match token {
+            Token::Star => {
+                any = true;
+                used += r.used;
+            }
+            _ => {
+                return Starring {
+                    any: any,
+                    used: used,
+                };
+            }
+        }
+    }
+}
+
+// p, with the stars that may follow it.
+fn starry(s: &[u8], p: Reading) -> Reading
+    requires { ⌜ p .left ≤ length (now s) ⌝ }
+    ensures { λ r. ⌜ Starry (now (s .entry)) p r ⌝ }
+{
+    if p.number != 0 {
+        return p;
+    }
+    let left = p.left;
+    let k = s.len() - left;
+    let stars = stars(&s[k..]);
+    if stars.any {
+        let plain = p.part;
+        let part = star_part(plain);
+        return Reading {
+            number: 0,
+            left: left - stars.used,
+            part: part,
+        };
+    }
+    p
+}
+
+// e, which a `)` has to follow.
+fn close(s: &[u8], e: Reading) -> Reading
+    requires { ⌜ e .left ≤ length (now s) ⌝ }
+    ensures { λ r. ⌜ r ≡ closed (now (s .entry)) e ⌝ }
+{
+    if e.number != 0 {
+        return e;
+    }
+    let left = e.left;
+    let part = e.part;
+    let k = s.len() - left;
+    let r = next(&s[k..]);
+    let token = r.token;
+    match token {
+        Token::Close => Reading {
+            number: 0,
+            left: left - r.used,
+            part: part,
+        },
+        _ => {
+            let t = part.table;
+            halt(number_of(token), left - r.start, t)
+        }
+    }
+}
+
+// An expression, behind the sum before it: a sequence, and after a `+` the rest.
+fn expression(s: &[u8], depth: usize, sum: Before) -> Reading
+    ensures { λ r. ⌜ ExpressionRead (now (s .entry)) depth sum r ⌝ }
+{
+    let so_far = sum.part;
+    let t = so_far.table;
+    let q = sequence(s, depth, nothing(t));
+    if q.number != 0 {
+        return q;
+    }
+    let e = or_after(sum, q);
+    let left = e.left;
+    let k = s.len() - left;
+    let r = next(&s[k..]);
+    let token = r.token;
+    match token {
+        Token::Plus => {
+            let part = e.part;
+            let from = k + r.used;
+            expression(
+                &s[from..],
+                depth,
+                Before {
+                    some: true,
+                    part: part,
+                },
+            )
+        }
+        _ => e,
+    }
+}
+
+// A sequence, behind the one before it: a factor, and after it, with a `;` or without, the rest.
+fn sequence(s: &[u8], depth: usize, run: Before) -> Reading
+    ensures { λ r. ⌜ SequenceRead (now (s .entry)) depth run r ⌝ }
+{
+    let so_far = run.part;
+    let t = so_far.table;
+    let f = factor(s, depth, t);
+    if f.number != 0 {
+        return f;
+    }
+    let q = then_after(run, f);
+    let left = q.left;
+    let part = q.part;
+    let before = Before {
+        some: true,
+        part: part,
+    };
+    let k = s.len() - left;
+    let r = next(&s[k..]);
+    let token = r.token;
+    match token {
+        Token::Semicolon => {
+            let from = k + r.used;
+            sequence(&s[from..], depth, before)
+        }
+        Token::Name(_) => sequence(&s[k..], depth, before),
+        Token::Open => sequence(&s[k..], depth, before),
+        _ => q,
+    }
+}
+
+// A factor: a name, or an expression in parentheses, with the stars that may follow.
+fn factor(s: &[u8], depth: usize, t: Table) -> Reading
+    ensures { λ r. ⌜ FactorRead (now (s .entry)) depth t r ⌝ }
+{
+    let n = s.len();
+    let r = next(s);
+    let token = r.token;
+    let start = r.start;
+    match token {
+        Token::Name(m) => {
+            let end = start + m;
+            let p = place(t, &s[start..end]);
+            if p.number != 0 {
+                return halt(p.number, n - start, t);
+            }
+            let part = p.part;
+            starry(
+                s,
+                Reading {
+                    number: 0,
+                    left: n - r.used,
+                    part: part,
+                },
+            )
+        }
+        Token::Open => {
+            if 16 <= depth {
+                return halt(5, n - start, t);
+            }
+            let from = r.used;
+            let e = expression(&s[from..], depth + 1, nothing(t));
+            starry(s, close(s, e))
+        }
+        _ => halt(number_of(token), n - start, t),
+    }
+}
+
+// A refused compile: the table of zeros.
+fn refuse(number: u8, place: usize) -> Compiled
+    ensures { λ r. ⌜ r ≡ refusedAt number place ⌝ }
+{
+    let table = no_table();
+    Compiled {
+        reply: Reply::Refused(Refusal {
+            number: number,
+            place: place,
+        }),
+        table: table,
+    }
+}
+
+// The whole path, behind which nothing may stand; s is what is left, from place k on.
+fn conclude(s: &[u8], k: usize, p: Part) -> Compiled
+    requires { ⌜ k + length (now s) ≤ 4096 ⌝ }
+    ensures { λ r. ⌜ r ≡ concluded (now (s .entry)) k p ⌝ }
+{
+    let r = next(s);
+    let token = r.token;
+    match token {
+        Token::TextEnd => {
+            let table = complete(p);
+            Compiled {
+                reply: Reply::Accepted,
+                table: table,
+            }
+        }
+        _ => refuse(number_of(token), k + r.start),
+    }
+}
+
+// The expression of the text, behind which `end` has to stand.
+fn end(text: &[u8], e: Reading) -> Compiled
+    requires { ⌜ (e .left ≤ length (now text)) × (length (now text) ≤ 4096) ⌝ }
+    ensures { λ r. ⌜ r ≡ ended (now (text .entry)) e ⌝ }
+{
+    let left = e.left;
+    let k = text.len() - left;
+    if e.number != 0 {
+        return refuse(e.number, k);
+    }
+    let part = e.part;
+    let r = next(&text[k..]);
+    let token = r.token;
+    match token {
+        Token::End => {
+            let from = k + r.used;
+            conclude(&text[from..], from, part)
+        }
+        _ => refuse(number_of(token), k + r.start),
+    }
+}
+
+// From the text of a path to its table: the only way in.
+pub fn compile(text: &[u8]) -> Compiled
+    ensures { λ r. ⌜ Compiles (now (text .entry)) r ⌝ }
+{
+    if 4096 < text.len() {
+        return refuse(1, 4096);
+    }
+    let r = next(text);
+    let token = r.token;
+    match token {
+        Token::Path => {
+            let from = r.used;
+            let e = expression(&text[from..], 0, nothing(no_table()));
+            end(text, e)
+        }
+        _ => refuse(number_of(token), r.start),
+    }
+}

@@ -1,0 +1,24 @@
+use borrow.Author.Needs.{needs}
+use Rattle.parts.specs.Parts.{completed}
+use Rattle.parts.proofs.joining.complete.Statement.{statement}
+use Rattle.parts.proofs.joining.complete.Tie as tie
+use Rattle.parts.proofs.joining.complete.Reads as reads
+use Rattle.parts.proofs.joining.complete.Lts as lts
+use Rattle.parts.proofs.joining.follow.Reads as follow-reads
+use Rattle.table.proofs.marks.mark_of.Reads as mark-of-reads
+
+-- src/joining.rt:105:9
+follow-requires : tie.Need-follow-requires
+follow-requires c κs = search needs
+
+-- src/joining.rt:107:9
+mark-of-requires : tie.Need-mark-of-requires
+mark-of-requires c κs = search needs
+
+-- src/joining.rt:101:1
+returns : tie.Need-returns
+unfolding completed
+returns c = simp (c .mark-of .ensures, c .before .follow .ensures)
+
+pub complete-spec : {M : Type 1} → statement M
+complete-spec = tie.close (tie.spec follow-requires mark-of-requires returns)

@@ -1,0 +1,17 @@
+use borrow.Author.Needs.{needs}
+use Rattle.parts.proofs.joining.either_part.Statement.{statement}
+use Rattle.parts.proofs.joining.either_part.Tie as tie
+use Rattle.parts.proofs.joining.either_part.Reads as reads
+use Rattle.parts.proofs.joining.either_part.Lts as lts
+use Rattle.parts.proofs.joining.any.Reads as any-reads
+
+-- src/joining.rt:64:16
+any-requires : tie.Need-any-requires
+any-requires c κs = search needs
+
+-- src/joining.rt:59:1
+returns : tie.Need-returns
+returns c = simp (c .before .before .before .before .any .ensures)
+
+pub either-part-spec : {M : Type 1} → statement M
+either-part-spec = tie.close (tie.spec any-requires returns)

@@ -1,0 +1,17 @@
+use borrow.Author.Needs.{needs}
+use Rattle.parts.proofs.joining.star_part.Statement.{statement}
+use Rattle.parts.proofs.joining.star_part.Tie as tie
+use Rattle.parts.proofs.joining.star_part.Reads as reads
+use Rattle.parts.proofs.joining.star_part.Lts as lts
+use Rattle.parts.proofs.joining.follow.Reads as follow-reads
+
+-- src/joining.rt:90:9
+follow-requires : tie.Need-follow-requires
+follow-requires c κs = search needs
+
+-- src/joining.rt:86:1
+returns : tie.Need-returns
+returns c = simp (c .follow .ensures)
+
+pub star-part-spec : {M : Type 1} → statement M
+star-part-spec = tie.close (tie.spec follow-requires returns)

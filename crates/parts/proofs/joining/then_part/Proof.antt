@@ -1,0 +1,32 @@
+use borrow.Author.Needs.{needs}
+use Rattle.parts.proofs.joining.then_part.Statement.{statement}
+use Rattle.parts.proofs.joining.then_part.Tie as tie
+use Rattle.parts.proofs.joining.then_part.Reads as reads
+use Rattle.parts.proofs.joining.then_part.Lts as lts
+use Rattle.parts.proofs.joining.both.Reads as both-reads
+use Rattle.parts.proofs.joining.choose.Reads as choose-reads
+use Rattle.parts.proofs.joining.follow.Reads as follow-reads
+
+-- src/joining.rt:76:9
+follow-requires : tie.Need-follow-requires
+follow-requires c κs = search needs
+
+-- src/joining.rt:78:16
+both-requires : tie.Need-both-requires
+both-requires c κs = search needs
+
+-- src/joining.rt:79:16
+choose-requires : tie.Need-choose-requires
+choose-requires c κs = search needs
+
+-- src/joining.rt:80:15
+choose-requires-2 : tie.Need-choose-requires-2
+choose-requires-2 c κs = search needs
+
+-- src/joining.rt:72:1
+returns : tie.Need-returns
+returns c = simp (c .before .before .before .before .before .before .before .follow .ensures, c .before .before .before .before .before .before .both .ensures, c .before .before .before .choose .ensures, c .choose2 .ensures)
+
+pub then-part-spec : {M : Type 1} → statement M
+then-part-spec =
+    tie.close (tie.spec follow-requires both-requires choose-requires choose-requires-2 returns)
