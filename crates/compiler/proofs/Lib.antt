@@ -14,3 +14,4 @@ pub mod Expressions
 pub mod Wholes
 pub mod Concluding
 pub mod CompiledTexts
+pub mod SampleReadings

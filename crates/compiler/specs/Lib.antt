@@ -2,3 +2,4 @@
 pub mod Reading
 pub mod Compiling
 pub mod Promises
+pub mod Samples
