@@ -8,7 +8,8 @@ use denote.Enum.Declared.{tagOf}
 use Rattle.text.proofs.tokens.Token as Token-enum
 use Rattle.text.specs.declared.tokens.Token.{Token}
 use Rattle.text.specs.declared.tokens.Token.the-variants.{Semicolon, Plus, Star, Open, Close, Path, End, Name as Named, TextEnd, Bad, Long}
-use Rattle.compiler.specs.Reading.{endsFactor, endsSequence, endsExpression, isClose, isPath, isEnd, isTextEnd}
+use Rattle.compiler.specs.declared.readers.Onward.the-variants.{Ends}
+use Rattle.compiler.specs.Reading.{endsFactor, isClose, isPath, isEnd, isTextEnd, factorBy, sequenceBy}
 
 -- the token's tag is one of ks
 abbrev pub Tagged : List ℕ → Token → Type 0
@@ -45,40 +46,6 @@ not-close (Named n) h = refl
 not-close TextEnd h = refl
 not-close Bad h = refl
 not-close Long h = refl
-
--- behind a factor, neither `;` nor another factor: the sequence ends
-abbrev pub no-factor : List ℕ
-no-factor = 1 ∷ 2 ∷ 4 ∷ 5 ∷ 6 ∷ 8 ∷ 9 ∷ 10 ∷ []
-
-pub no-factor-ends : (t : Token) → Tagged no-factor t → endsFactor t ≡ true → endsSequence t ≡ true
-no-factor-ends Semicolon h e = absurd (miss no-factor 0 tt h)
-no-factor-ends Plus h e = refl
-no-factor-ends Star h e = e
-no-factor-ends Open h e = absurd (miss no-factor 3 tt h)
-no-factor-ends Close h e = refl
-no-factor-ends Path h e = refl
-no-factor-ends End h e = refl
-no-factor-ends (Named n) h e = absurd (miss no-factor 7 tt h)
-no-factor-ends TextEnd h e = refl
-no-factor-ends Bad h e = refl
-no-factor-ends Long h e = refl
-
--- behind a sequence, no `+`: the expression ends
-abbrev pub all-but-plus : List ℕ
-all-but-plus = 0 ∷ 2 ∷ 3 ∷ 4 ∷ 5 ∷ 6 ∷ 7 ∷ 8 ∷ 9 ∷ 10 ∷ []
-
-pub not-plus : (t : Token) → Tagged all-but-plus t → endsSequence t ≡ true → endsExpression t ≡ true
-not-plus Semicolon h e = e
-not-plus Plus h e = absurd (miss all-but-plus 1 tt h)
-not-plus Star h e = e
-not-plus Open h e = e
-not-plus Close h e = refl
-not-plus Path h e = refl
-not-plus End h e = refl
-not-plus (Named n) h e = e
-not-plus TextEnd h e = refl
-not-plus Bad h e = refl
-not-plus Long h e = refl
 
 -- a factor begins with the token
 abbrev pub begins : Token → Bool
@@ -160,3 +127,37 @@ not-text-end (Named n) h = refl
 not-text-end TextEnd h = absurd (miss all-but-text-end 8 tt h)
 not-text-end Bad h = refl
 not-text-end Long h = refl
+
+-- behind a factor, neither a `;` nor another factor
+abbrev pub no-factor : List ℕ
+no-factor = 1 ∷ 2 ∷ 4 ∷ 5 ∷ 6 ∷ 8 ∷ 9 ∷ 10 ∷ []
+
+pub no-factor-there : (t : Token) (k used : ℕ) → Tagged no-factor t → factorBy t k used ≡ Ends
+no-factor-there Semicolon k used h = absurd (miss no-factor 0 tt h)
+no-factor-there Plus k used h = refl
+no-factor-there Star k used h = refl
+no-factor-there Open k used h = absurd (miss no-factor 3 tt h)
+no-factor-there Close k used h = refl
+no-factor-there Path k used h = refl
+no-factor-there End k used h = refl
+no-factor-there (Named n) k used h = absurd (miss no-factor 7 tt h)
+no-factor-there TextEnd k used h = refl
+no-factor-there Bad k used h = refl
+no-factor-there Long k used h = refl
+
+-- behind a sequence, no `+`
+abbrev pub all-but-plus : List ℕ
+all-but-plus = 0 ∷ 2 ∷ 3 ∷ 4 ∷ 5 ∷ 6 ∷ 7 ∷ 8 ∷ 9 ∷ 10 ∷ []
+
+pub no-sequence-there : (t : Token) (k used : ℕ) → Tagged all-but-plus t → sequenceBy t k used ≡ Ends
+no-sequence-there Semicolon k used h = refl
+no-sequence-there Plus k used h = absurd (miss all-but-plus 1 tt h)
+no-sequence-there Star k used h = refl
+no-sequence-there Open k used h = refl
+no-sequence-there Close k used h = refl
+no-sequence-there Path k used h = refl
+no-sequence-there End k used h = refl
+no-sequence-there (Named n) k used h = refl
+no-sequence-there TextEnd k used h = refl
+no-sequence-there Bad k used h = refl
+no-sequence-there Long k used h = refl

@@ -1,16 +1,14 @@
 -- The token behind an expression in parentheses: a `)`, or a refusal.
-use mathlib.Core.Path.{_≡_, refl, sym, ap, _∙_}
-use mathlib.Core.Bool.{Bool, true, false, true≢false}
+use mathlib.Core.Path.{_≡_, refl, ap, _∙_}
+use mathlib.Core.Bool.{true, false}
 use mathlib.Core.List.{List}
-use Prim.Native.Nat.{ℕ, _-_, _≤_, _<_}
-use native.Mathlib.Omega.{arith}
+use Prim.Native.Nat.{ℕ, _-_, _≤_}
 use borrow.Author.Tests.{eq-eqb}
-use lib.ListN.{length, drop}
+use lib.ListN.{length}
 use Rattle.text.specs.Tokens.{nextToken}
 use Rattle.text.specs.declared.tokens.Token.the-variants.{Close}
 use Rattle.text.specs.declared.tokens.Read.{Read}
-use Rattle.text.proofs.Reading.{token-moves-on}
-use Rattle.compiler.specs.Reading.{behind, closed, closeBy, halted, isClose, isTextEnd, unfit}
+use Rattle.compiler.specs.Reading.{behind, closed, closeBy, halted, isClose, unfit}
 use Rattle.compiler.specs.declared.readers.Reading.{Reading}
 use Rattle.compiler.proofs.Endings.{behind-fits, behind-starts}
 use Rattle.compiler.proofs.Tails.{slice, slice-drops}
@@ -34,9 +32,3 @@ module _ (s : List ℕ) (e : Reading) (u : Read) (told : u ≡ nextToken (slice 
       → r ≡ halted (unfit (u .token)) (e .left - u .start) (e .part .table) → r ≡ closed s e
   unfolding closed
   closed-halts r z t is = rw (is, eq-eqb _ _ z, ← is-behind, t) refl
-
-  -- any token but the end of the text uses up some of it
-  pub moves-behind : isTextEnd (u .token) ≡ false → 0 < u .used
-  moves-behind n =
-      let at = drop (length s - e .left) s in
-      rw is-behind (omega (arith, token-moves-on at (λ z. true≢false (sym (ap isTextEnd z) ∙ ap (λ (x : Read). isTextEnd (x .token)) (sym is-behind) ∙ n))))

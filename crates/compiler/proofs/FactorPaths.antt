@@ -13,8 +13,7 @@ use Rattle.text.proofs.Reading.{start-within-used, used-within-text, name-reach
 use Rattle.table.specs.declared.cells.Table.{Table}
 use Rattle.parts.specs.Parts.{placed}
 use Rattle.parts.specs.declared.placing.Placed.{Placed}
-use Rattle.compiler.specs.Reading.{Starry, FactorRead, ExpressionRead, closed, halted, noneBefore, unfit}
-use Rattle.compiler.specs.declared.readers.Before.{Before}
+use Rattle.compiler.specs.Reading.{Starry, FactorRead, ExpressionRead, endsExpression, closed, halted, unfit}
 use Rattle.compiler.specs.declared.readers.Reading.{Reading}
 use Rattle.compiler.proofs.Arms.{begins}
 use Rattle.compiler.proofs.Tails.{slice, slice-size}
@@ -72,20 +71,18 @@ module _ (s : List ℕ) (u : Read) (told : u ≡ nextToken s) where
           subst (λ (v : Read). p .number ≡ 0 → Starry s (record { number = 0; left = length s - v .used; part = p .part }) r → FactorRead s d t r)
           (sym told) (factor-name s d t m is-name p is-placed r)
 
-    pub reads-open : u .token ≡ Open → d < 16 → (none-yet : Before) → none-yet ≡ noneBefore t → (e : Reading)
-        → ExpressionRead (slice s (u .used)) (d + 1) none-yet e → (q : Reading) → q ≡ closed s e → Starry s q r → FactorRead s d t r
+    pub reads-open : u .token ≡ Open → d < 16 → (e : Reading)
+        → ExpressionRead endsExpression (slice s (u .used)) (d + 1) t e → (q : Reading) → q ≡ closed s e → Starry s q r → FactorRead s d t r
     reads-open =
         subst
         (λ (v : Read).
-        v .token ≡ Open → d < 16 → (none-yet : Before) → none-yet ≡ noneBefore t → (e : Reading)
-        → ExpressionRead (slice s (v .used)) (d + 1) none-yet e → (q : Reading) → q ≡ closed s e → Starry s q r → FactorRead s d t r)
+        v .token ≡ Open → d < 16 → (e : Reading) → ExpressionRead endsExpression (slice s (v .used)) (d + 1) t e → (q : Reading) → q ≡ closed s e → Starry s q r → FactorRead s d t r)
         (sym told)
-        (λ is-open shallow none-yet is-none e inner q is-closed starry.
-        factor-open s d t is-open shallow none-yet is-none e inner q r is-closed starry)
+        (λ is-open shallow e inner q is-closed starry. factor-open s d t is-open shallow e inner q r is-closed starry)
 
   -- the expression inside, and what is closed behind it, lie within s
-  pub inside-fits : (d : ℕ) (b : Before) (e : Reading) → ExpressionRead (slice s (u .used)) d b e → e .left ≤ length s
-  inside-fits d b e inner = omega (arith, inner .within, slice-size s (u .used))
+  pub inside-fits : (d : ℕ) (t : Table) (e : Reading) → ExpressionRead endsExpression (slice s (u .used)) d t e → e .left ≤ length s
+  inside-fits d t e inner = omega (arith, inner .within, slice-size s (u .used))
 
-  pub closed-fits : (d : ℕ) (b : Before) (e q : Reading) → ExpressionRead (slice s (u .used)) d b e → q ≡ closed s e → q .left ≤ length s
-  closed-fits d b e q inner is = omega (arith, inside-fits d b e inner, closed-left s e, ap (λ (x : Reading). x .left) is)
+  pub closed-fits : (d : ℕ) (t : Table) (e q : Reading) → ExpressionRead endsExpression (slice s (u .used)) d t e → q ≡ closed s e → q .left ≤ length s
+  closed-fits d t e q inner is = omega (arith, inside-fits d t e inner, closed-left s e, ap (λ (x : Reading). x .left) is)

@@ -28,7 +28,7 @@ use Rattle.parts.specs.Progress.{noted, Fine, partOf, starTimes}
 use Rattle.parts.specs.declared.placing.Placed.{Placed}
 use Rattle.parts.proofs.Laws.{part-stars, names-starred}
 use Rattle.parts.proofs.NameParts.{nameLimit, placed-number, placed-part, placed-fine}
-use Rattle.compiler.specs.Reading.{Tail, Goes, Stops, Starry, FactorRead, ExpressionRead, Part-read, verdict, behind, endsFactor, endsExpression, isClose, closed, closeBy, halted, noneBefore, unfit}
+use Rattle.compiler.specs.Reading.{Tail, Goes, Stops, Starry, FactorRead, ExpressionRead, Part-read, verdict, behind, endsFactor, endsExpression, isClose, closed, closeBy, halted, unfit}
 use Rattle.compiler.specs.declared.readers.Reading.{Reading}
 use Rattle.compiler.proofs.Arms.{begins}
 use Rattle.compiler.proofs.Tails.{slice, slice-drops, tail-left, tail-drop}

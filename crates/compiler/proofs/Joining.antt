@@ -1,61 +1,35 @@
--- What stands before a place, and what is read there: joined, they are the part of the whole.
-use mathlib.Core.Path.{_≡_, refl, sym, ap, _∙_}
-use mathlib.Core.Bool.{Bool, true, false, cond}
+-- What was read and what is read behind it, joined: the names, the table so far, and the part of the whole.
+use mathlib.Core.Path.{_≡_, sym, ap, _∙_}
 use mathlib.Core.List.{List, _++_, append-assoc}
-use mathlib.Core.Option.{Option, some, none}
 use Prim.Native.Nat.{ℕ}
+use lib.ListN.{length}
 use Rattle.meaning.specs.Names.{Name}
 use Rattle.meaning.specs.Words.{Expr, names}
-use Rattle.grammar.specs.Machine.{thenAfter, orAfter}
-use Rattle.parts.specs.Parts.{either, then}
-use Rattle.parts.specs.Progress.{noted, partOf}
+use Rattle.meaning.specs.Words.Expr.{seq, choice}
+use Rattle.parts.specs.Progress.{noted, partOf, rowsAfter}
 use Rattle.parts.specs.declared.joining.Part.{Part}
-use Rattle.parts.proofs.Laws.{part-then, part-either, table-behind}
-use Rattle.compiler.specs.Reading.{Stands, namesPast, rowsPast, thenRead, orRead, withPart}
-use Rattle.compiler.specs.declared.readers.Before.{Before}
+use Rattle.parts.proofs.Laws.{partBehind, part-then, part-either, table-behind}
+use Rattle.compiler.specs.Reading.{thenRead, orRead}
 use Rattle.compiler.specs.declared.readers.Reading.{Reading}
 
--- the table so far
-pub stands-table : (b : Before) (e : Option Expr) (ns : List Name) (rs : List ℕ) → Stands b e ns rs
-    → b .part .table ≡ noted (namesPast e ns) (rowsPast e ns rs)
-stands-table b none ns rs h = h .1
-stands-table b (some a) ns rs h = ap (λ (p : Part). p .table) (h .1) ∙ table-behind a ns rs
+module _ (a b : Expr) (ns : List Name) where
+  pub names-then : ns ++ names (seq a b) ≡ (ns ++ names a) ++ names b
+  unfolding names
+  names-then = sym (append-assoc ns (names a) (names b))
 
-pub names-then : (e : Option Expr) (f : Expr) (ns : List Name) → ns ++ names (thenAfter e f) ≡ namesPast e ns ++ names f
-unfolding names
-names-then none f ns = refl
-names-then (some a) f ns = sym (append-assoc ns (names a) (names f))
+  pub names-or : ns ++ names (choice a b) ≡ (ns ++ names a) ++ names b
+  unfolding names
+  names-or = sym (append-assoc ns (names a) (names b))
 
-pub names-or : (e : Option Expr) (f : Expr) (ns : List Name) → ns ++ names (orAfter e f) ≡ namesPast e ns ++ names f
-unfolding names
-names-or none f ns = refl
-names-or (some a) f ns = sym (append-assoc ns (names a) (names f))
+-- q was read behind the names ns, with the rows rs
+module _ (q : Reading) (a : Expr) (ns : List Name) (rs : List ℕ) (is-a : q .part ≡ partOf a ns rs) where
+  pub table-so-far : q .part .table ≡ noted (ns ++ names a) (rowsAfter a (length ns) rs)
+  table-so-far = ap (λ (p : Part). p .table) is-a ∙ table-behind a ns rs
 
-pub then-joined : (b : Before) (e : Option Expr) (ns : List Name) (rs : List ℕ) (f : Expr) (r : Reading) → Stands b e ns rs
-    → r .part ≡ partOf f (namesPast e ns) (rowsPast e ns rs) → thenRead b r .part ≡ partOf (thenAfter e f) ns rs
-unfolding thenRead
-then-joined b none ns rs f r h p = rw (h .0) p
-then-joined b (some a) ns rs f r h p = rw (h .0, h .1, p) (part-then a f ns rs)
+  -- and f behind it
+  module _ (f : Reading) (b : Expr) (is-b : f .part ≡ partBehind a b ns rs) where
+    pub then-joined : thenRead q f .part ≡ partOf (seq a b) ns rs
+    then-joined = rw (is-a, is-b) (part-then a b ns rs)
 
-pub or-joined : (b : Before) (e : Option Expr) (ns : List Name) (rs : List ℕ) (f : Expr) (r : Reading) → Stands b e ns rs
-    → r .part ≡ partOf f (namesPast e ns) (rowsPast e ns rs) → orRead b r .part ≡ partOf (orAfter e f) ns rs
-unfolding orRead
-or-joined b none ns rs f r h p = rw (h .0) p
-or-joined b (some a) ns rs f r h p = rw (h .0, h .1, p) (part-either a f ns rs)
-
--- joining reads nothing
-pub record Same-place (q r : Reading) : Type 0 where
-  pub number : q .number ≡ r .number
-  pub left : q .left ≡ r .left
-
-same-place : (t : Bool) (r : Reading) (p : Part) → Same-place (cond t (withPart r p) r) r
-same-place true r p = record { number = refl; left = refl }
-same-place false r p = record { number = refl; left = refl }
-
-pub then-place : (b : Before) (r : Reading) → Same-place (thenRead b r) r
-unfolding thenRead
-then-place b r = same-place (b .some) r (then (b .part) (r .part))
-
-pub or-place : (b : Before) (r : Reading) → Same-place (orRead b r) r
-unfolding orRead
-or-place b r = same-place (b .some) r (either (b .part) (r .part))
+    pub or-joined : orRead q f .part ≡ partOf (choice a b) ns rs
+    or-joined = rw (is-a, is-b) (part-either a b ns rs)

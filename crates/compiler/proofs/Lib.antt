@@ -9,6 +9,7 @@ pub mod Factors
 pub mod Parentheses
 pub mod FactorPaths
 pub mod Joining
+pub mod Onwards
 pub mod Sequences
 pub mod Expressions
 pub mod Wholes

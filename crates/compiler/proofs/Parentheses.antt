@@ -24,8 +24,7 @@ use Rattle.grammar.specs.Machine.Verdict.{refused}
 use Rattle.table.specs.declared.cells.Table.{Table}
 use Rattle.parts.specs.Progress.{noted, Fine, partOf, starTimes}
 use Rattle.parts.proofs.Laws.{part-stars, names-starred}
-use Rattle.compiler.specs.Reading.{Tail, Goes, Stops, Starry, FactorRead, ExpressionRead, Part-read, verdict, behind, endsFactor, endsExpression, isClose, closed, halted, noneBefore, Either-way, unfit}
-use Rattle.compiler.specs.declared.readers.Before.{Before}
+use Rattle.compiler.specs.Reading.{Tail, Goes, Stops, Starry, FactorRead, ExpressionRead, Part-read, verdict, behind, endsFactor, endsExpression, isClose, closed, halted, Either-way, unfit}
 use Rattle.compiler.specs.declared.readers.Reading.{Reading}
 use Rattle.compiler.proofs.Tails.{slice, slice-drops, tail-drop}
 use Rattle.compiler.proofs.Verdicts.{is-closing, place, verdict-symbol, verdict-stuck}
@@ -61,7 +60,7 @@ closed-left s e = go (eqb (e .number) 0) (isClose (behind s e .token))
     go true false = omega arith
     go false c = omega arith
 
-module _ (s : List ℕ) (d : ℕ) (t : Table) (is-open : nextToken s .token ≡ Open) (shallow : d < 16) (none-yet : Before) (is-none : none-yet ≡ noneBefore t) (e : Reading) (told : ExpressionRead (slice s (nextToken s .used)) (d + 1) none-yet e) where
+module _ (s : List ℕ) (d : ℕ) (t : Table) (is-open : nextToken s .token ≡ Open) (shallow : d < 16) (e : Reading) (told : ExpressionRead endsExpression (slice s (nextToken s .used)) (d + 1) t e) where
   inside : List ℕ
   inside = drop (nextToken s .used) s
 
@@ -69,11 +68,9 @@ module _ (s : List ℕ) (d : ℕ) (t : Table) (is-open : nextToken s .token ≡ 
   unfolding inside
   size-inside = length-drop (nextToken s .used) s
 
-  inner : ExpressionRead inside (d + 1) (noneBefore t) e
+  inner : ExpressionRead endsExpression inside (d + 1) t e
   unfolding inside
-  inner =
-      subst (λ (b : Before). ExpressionRead (drop (nextToken s .used) s) (d + 1) b e) is-none
-      (subst (λ (v : List ℕ). ExpressionRead v (d + 1) none-yet e) (slice-drops s (nextToken s .used)) told)
+  inner = subst (λ (v : List ℕ). ExpressionRead endsExpression v (d + 1) t e) (slice-drops s (nextToken s .used)) told
 
   within-all : e .left ≤ length s
   within-all = omega (arith, inner .within, size-inside)
@@ -196,7 +193,7 @@ module _ (s : List ℕ) (d : ℕ) (t : Table) (is-open : nextToken s .token ≡ 
         record {
           within = omega (arith, within-all, left-inside);
           fewer = λ _. omega (arith, left-inside, inner .within, size-inside, less, used-within-text s);
-          outcome = λ ns rs same fine. by-outcome ns rs (inner .outcome none ns rs (refl, same) fine);
+          outcome = λ ns rs same fine. by-outcome ns rs (inner .outcome ns rs same fine);
         }
       where
         by-close : (ns : List Name) (rs : List ℕ) (l′ : Left) (f : Expr) → e .number ≡ 0

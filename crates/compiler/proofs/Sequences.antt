@@ -1,230 +1,193 @@
--- Each way through the reader of sequences, as its contract has it: the factor is refused, the sequence ends behind it, or goes on with a
--- `;` or with another factor.
+-- The reader of sequences, turn by turn: it starts with a factor, grows by each factor that follows, and ends where none does.
 use mathlib.Core.Path.{_≡_, refl, sym, ap, ap₂, subst, _∙_}
-use mathlib.Core.Bool.{Bool, true, false, true≢false}
-use mathlib.Core.List.{List, [], _∷_, _++_}
-use mathlib.Core.Logic.{_⊎_, inl, inr}
+use mathlib.Core.Bool.{Bool, true}
+use mathlib.Core.List.{List, _++_}
+use mathlib.Core.Logic.{inl, inr}
 use mathlib.Core.Option.{Option, some, none}
-use Prim.Native.Nat.{ℕ, _+_, _-_, _≤_}
+use Prim.Native.Nat.{ℕ, _-_, _≤_, _<_}
 use native.Mathlib.Omega.{arith}
-use lib.ListN.{length, take, drop, length-drop}
+use lib.ListN.{length, drop, length-drop}
 use Rattle.meaning.specs.Names.{Name}
 use Rattle.meaning.specs.Words.{Expr, names}
-use Rattle.text.specs.Tokens.{nextToken}
 use Rattle.text.specs.declared.tokens.Token.{Token}
-use Rattle.text.specs.declared.tokens.Token.the-variants.{Semicolon, Open, Name as Named}
 use Rattle.text.specs.declared.tokens.Read.{Read}
-use Rattle.grammar.specs.Symbols.Symbol.{semicolon, opening, name}
-use Rattle.grammar.specs.Machine.{Left, stepTo, wantStep, haveStep, depthOf, limitAt, namesOn, stepped, limited, onward, thenAfter}
+use Rattle.grammar.specs.Machine.{Left, onward, thenAfter}
 use Rattle.grammar.specs.Machine.State.{wanting, having}
-use Rattle.parts.specs.Progress.{Fine, partOf}
-use Rattle.compiler.specs.Reading.{Tail, Goes, Stops, FactorRead, SequenceRead, Part-read, Either-way, Stands, namesPast, rowsPast, onSum, thenRead, verdict, behind, endsFactor, endsSequence}
-use Rattle.compiler.specs.declared.readers.Before.{Before}
+use Rattle.table.specs.declared.cells.Table.{Table}
+use Rattle.parts.specs.Progress.{noted, Fine, partOf, rowsAfter}
+use Rattle.compiler.specs.Reading.{Tail, Goes, Stops, FactorRead, SequenceRead, Part-read, Either-way, onSum, thenRead, verdict, behind, factorFrom, endsFactor, endsSequence}
+use Rattle.compiler.specs.declared.readers.Onward.the-variants.{At, Ends}
 use Rattle.compiler.specs.declared.readers.Reading.{Reading}
 use Rattle.compiler.proofs.Tails.{slice, slice-drops, tail-drop}
-use Rattle.compiler.proofs.Verdicts.{is-semicolon, is-opening, is-name, verdict-symbol}
-use Rattle.compiler.proofs.Joining.{stands-table, names-then, then-joined, then-place}
-use Rattle.compiler.proofs.Closing.{is-behind}
-use Rattle.compiler.proofs.Endings.{behind-part, ending, ending-size, ending-tail, behind-fits}
+use Rattle.compiler.proofs.Endings.{behind-part}
+use Rattle.compiler.proofs.Joining.{names-then, table-so-far, then-joined}
+use Rattle.compiler.proofs.Onwards.{Goes-on, factor-follows, no-factor-follows}
 
--- the machine goes on behind the reading q of s, at its byte j, from a factor to where the next has to come
-abbrev pub Goes-on : List ℕ → Reading → ℕ → Type 0
-Goes-on s q j =
-    (text : List ℕ) → Tail text s → (l : Left) (f : Expr) (ks : List Left) (ns : List Name)
-    → verdict text (q .left) (having l f ks) ns ≡ verdict text (length s - j) (wanting (onward l f) ks) ns
+module _ (s : List ℕ) (d : ℕ) (t : Table) where
+  -- a factor is a sequence
+  pub sequence-starts : (f : Reading) → FactorRead s d t f → SequenceRead endsFactor s d t f
+  sequence-starts f given =
+      record { within = given .within; fewer = given .fewer; outcome = λ ns rs same fine. by ns rs (given .outcome ns rs same fine) }
+    where
+      by : (ns : List Name) (rs : List ℕ)
+          → Either-way f ((g : Expr) × Part-read s f endsFactor ns rs g
+          × ((l : Left) → Goes s (f .left) d (λ ks. wanting l ks) ns (λ ks. having l g ks) (ns ++ names g)))
+          ((l : Left) → Stops s f d (λ ks. wanting l ks) ns)
+          → Either-way f ((run : Option Expr) × (g : Expr) × Part-read s f endsFactor ns rs (thenAfter run g)
+          × ((sum : Option Expr)
+          → Goes s (f .left) d (λ ks. wanting (onSum sum none) ks) ns (λ ks. having (onSum sum run) g ks) (ns ++ names (thenAfter run g))))
+          ((sum : Option Expr) → Stops s f d (λ ks. wanting (onSum sum none) ks) ns)
+      by ns rs (inl (z, (g, read, goes))) = inl (z, (none, g, read, λ sum. goes (onSum sum none)))
+      by ns rs (inr (n, stops)) = inr (n, λ sum. stops (onSum sum none))
 
-module _ (s : List ℕ) (q : Reading) (w : q .left ≤ length s) where
-  at : List ℕ
-  at = ending s q w
-
-  -- over a `;`
-  pub over-semicolon : behind s q .token ≡ Semicolon → Goes-on s q (length s - q .left + behind s q .used)
-  unfolding at ending stepTo haveStep depthOf limitAt namesOn stepped limited
-  over-semicolon e text h l f ks ns =
-      let size = ending-size s q w in
-      let rest : length at - behind s q .used ≡ length s - (length s - q .left + behind s q .used) = omega (arith, size, behind-fits s q w) in
-      ap (λ (j : ℕ). verdict text j (having l f ks) ns) (sym size)
-      ∙ verdict-symbol text at (ending-tail s q w text h) Semicolon semicolon e (is-semicolon _) (having l f ks) ns
-      ∙ ap (λ (j : ℕ). verdict text j (wanting (onward l f) ks) ns) rest
-
-  -- the next factor follows at once
-  same-here : (text : List ℕ) → Tail text s → (l : Left) (f : Expr) (ks : List Left) (ns : List Name)
-      → verdict text (length at) (having l f ks) ns ≡ verdict text (length at) (wanting (onward l f) ks) ns
-      → verdict text (q .left) (having l f ks) ns ≡ verdict text (length s - (length s - q .left)) (wanting (onward l f) ks) ns
-  unfolding at
-  same-here text h l f ks ns e =
-      let size = ending-size s q w in
-      let back : length at ≡ length s - (length s - q .left) = omega (arith, size) in
-      ap (λ (j : ℕ). verdict text j (having l f ks) ns) (sym size) ∙ e ∙ ap (λ (j : ℕ). verdict text j (wanting (onward l f) ks) ns) back
-
-  pub before-name : (m : ℕ) → behind s q .token ≡ Named m → Goes-on s q (length s - q .left)
-  unfolding at ending stepTo haveStep wantStep depthOf limitAt namesOn stepped
-  before-name m e text h l f ks ns =
-      let tail = ending-tail s q w text h in
-      same-here text h l f ks ns
-      (verdict-symbol text at tail (Named m) (name _) e (is-name m _) (having l f ks) ns
-      ∙ sym (verdict-symbol text at tail (Named m) (name _) e (is-name m _) (wanting (onward l f) ks) ns))
-
-  pub before-open : behind s q .token ≡ Open → Goes-on s q (length s - q .left)
-  unfolding at ending stepTo haveStep wantStep depthOf limitAt namesOn stepped
-  before-open e text h l f ks ns =
-      let tail = ending-tail s q w text h in
-      same-here text h l f ks ns
-      (verdict-symbol text at tail Open opening e (is-opening _) (having l f ks) ns
-      ∙ sym (verdict-symbol text at tail Open opening e (is-opening _) (wanting (onward l f) ks) ns))
-
-module _ (s : List ℕ) (d : ℕ) (b : Before) (f : Reading) (given : FactorRead s d (b .part .table) f) where
-  pub sequence-refused : (f .number ≡ 0 → ⊥) → SequenceRead s d b f
-  sequence-refused some-number =
+  -- a refusal is one, whatever may stand behind a part
+  pub sequence-refused : (ends ends′ : Token → Bool) (r : Reading) → SequenceRead ends s d t r → (r .number ≡ 0 → ⊥) → SequenceRead ends′ s d t r
+  sequence-refused ends ends′ r given some-number =
       record {
         within = given .within;
-        outcome = λ run ns rs stands fine.
-            by run ns (given .outcome (namesPast run ns) (rowsPast run ns rs) (stands-table b run ns rs stands) fine);
+        fewer = given .fewer;
+        outcome = λ ns rs same fine. by ns (given .outcome ns rs same fine);
       }
     where
-      by : {W X : Type 0} (run : Option Expr) (ns : List Name) → Either-way f W ((l : Left) → Stops s f d (λ ks. wanting l ks) (namesPast run ns))
-          → Either-way f X ((sum : Option Expr) → Stops s f d (λ ks. wanting (onSum sum run) ks) (namesPast run ns))
-      by run ns (inl (z, went)) = absurd (some-number z)
-      by run ns (inr (n, stops)) = inr (n, λ sum. stops (onSum sum run))
+      by : {W X : Type 0} (ns : List Name) → Either-way r W ((sum : Option Expr) → Stops s r d (λ ks. wanting (onSum sum none) ks) ns)
+          → Either-way r X ((sum : Option Expr) → Stops s r d (λ ks. wanting (onSum sum none) ks) ns)
+      by ns (inl (z, went)) = absurd (some-number z)
+      by ns (inr stopped) = inr stopped
 
-  module _ (z : f .number ≡ 0) (q : Reading) (joined : q ≡ thenRead b f) where
-    pub left-stays : q .left ≡ f .left
-    left-stays = ap (λ (x : Reading). x .left) joined ∙ then-place b f .left
-
-    number-stays : q .number ≡ 0
-    number-stays = ap (λ (x : Reading). x .number) joined ∙ then-place b f .number ∙ z
-
-    pub left-within : q .left ≤ length s
-    left-within = omega (arith, left-stays, given .within)
-
-    -- the sequence to here, and where it takes the machine
-    record So-far (run : Option Expr) (ns : List Name) (rs : List ℕ) : Type 0 where
+  module _ (q : Reading) (given : SequenceRead endsFactor s d t q) (z : q .number ≡ 0) where
+    -- the sequence so far, and where it takes the machine
+    record So-far (ns : List Name) (rs : List ℕ) : Type 0 where
+      run : Option Expr
       factor : Expr
-      part : q .part ≡ partOf (thenAfter run factor) ns rs
-      fine : Fine (ns ++ names (thenAfter run factor))
-      ended : endsFactor (behind s q .token) ≡ true
+      read : Part-read s q endsFactor ns rs (thenAfter run factor)
       goes : (sum : Option Expr)
-          → Goes s (q .left) d (λ ks. wanting (onSum sum run) ks) (namesPast run ns)
-          (λ ks. having (onSum sum run) factor ks) (ns ++ names (thenAfter run factor))
+          → Goes s (q .left) d (λ ks. wanting (onSum sum none) ks) ns (λ ks. having (onSum sum run) factor ks) (ns ++ names (thenAfter run factor))
 
-    so-far : (run : Option Expr) (ns : List Name) (rs : List ℕ) → Stands b run ns rs → Fine (namesPast run ns) → So-far run ns rs
-    so-far run ns rs stands fine =
-        by (given .outcome (namesPast run ns) (rowsPast run ns rs) (stands-table b run ns rs stands) fine)
+    so-far : (ns : List Name) (rs : List ℕ) → t ≡ noted ns rs → Fine ns → So-far ns rs
+    so-far ns rs same fine = by (given .outcome ns rs same fine)
       where
         by : {S : Type 0}
-            → Either-way f ((g : Expr) × Part-read s f endsFactor (namesPast run ns) (rowsPast run ns rs) g
-            × ((l : Left) → Goes s (f .left) d (λ ks. wanting l ks) (namesPast run ns) (λ ks. having l g ks) (namesPast run ns ++ names g))) S
-            → So-far run ns rs
+            → Either-way q ((run : Option Expr) × (g : Expr) × Part-read s q endsFactor ns rs (thenAfter run g)
+            × ((sum : Option Expr)
+            → Goes s (q .left) d (λ ks. wanting (onSum sum none) ks) ns (λ ks. having (onSum sum run) g ks) (ns ++ names (thenAfter run g)))) S
+            → So-far ns rs
+        by (inl (y, (run, g, read, goes))) = record { run = run; factor = g; read = read; goes = goes }
         by (inr (n, stops)) = absurd (n z)
-        by (inl (y, (g, read, goes))) =
-            let all = names-then run g ns in
-            record {
-              factor = g;
-              part = ap (λ (x : Reading). x .part) joined ∙ then-joined b run ns rs g f stands (read .part);
-              fine = subst Fine (sym all) (read .fine);
-              ended = ap (λ (j : ℕ). endsFactor (nextToken (drop (length s - j) s) .token)) left-stays ∙ read .ended;
-              goes = λ sum text ks h k.
-                  goes (onSum sum run) text ks h k
-                  ∙ ap₂ (λ (j : ℕ) (ms : List Name). verdict text j (having (onSum sum run) g ks) ms) (sym left-stays) (sym all);
-            }
 
-    -- the sequence ends behind the factor
-    pub sequence-ends : (endsFactor (behind s q .token) ≡ true → endsSequence (behind s q .token) ≡ true) → SequenceRead s d b q
-    sequence-ends ends =
+    -- no factor follows
+    pub sequence-ends : factorFrom s (q .left) ≡ Ends → SequenceRead endsSequence s d t q
+    sequence-ends e =
         record {
-          within = left-within;
-          outcome = λ run ns rs stands fine.
-              let here = so-far run ns rs stands fine in
+          within = given .within;
+          fewer = given .fewer;
+          outcome = λ ns rs same fine.
+              let here = so-far ns rs same fine in
+              let read = here .read in
               inl (
-                number-stays,
+                z,
                 (
-                  run,
+                  here .run,
                   here .factor,
-                  record { part = here .part; fine = here .fine; ended = ends (here .ended) },
+                  record { part = read .part; fine = read .fine; ended = no-factor-follows (behind s q .token) _ _ e (read .ended) },
                   here .goes,
                 ),
               );
         }
 
-    -- it goes on at byte j
-    pub sequence-on : (j : ℕ) → j ≤ length s → Goes-on s q j → (r : Reading)
-        → SequenceRead (slice s j) d (record { some = true; part = q .part }) r → SequenceRead s d b r
-    sequence-on j fits on r read-on =
-        record {
-          within = omega (arith, onward-read .within, length-drop j s);
-          outcome = λ run ns rs stands fine.
-              let here = so-far run ns rs stands fine in
-              by run ns rs here (onward-read .outcome (some (thenAfter run (here .factor))) ns rs (refl, here .part) (here .fine));
-        }
-      where
-        onward-read : SequenceRead (drop j s) d (record { some = true; part = q .part }) r
-        onward-read = subst (λ (v : List ℕ). SequenceRead v d (record { some = true; part = q .part }) r) (slice-drops s j) read-on
+    -- another factor follows, at byte j
+    module _ (j : ℕ) (on : Goes-on onward s q j) (t′ : Table) (so-far-is : t′ ≡ q .part .table) (f : Reading) (told : FactorRead (slice s j) d t′ f) where
+      next : FactorRead (drop j s) d (q .part .table) f
+      next =
+          subst (λ (v : List ℕ). FactorRead v d (q .part .table) f) (slice-drops s j)
+          (subst (λ (x : Table). FactorRead (slice s j) d x f) so-far-is told)
 
-        -- to where the next factor has to come
-        reaches : (run : Option Expr) (ns : List Name) (rs : List ℕ) (here : So-far run ns rs) (sum : Option Expr) (text : List ℕ) (ks : List Left)
-            → Tail text s → length ks ≡ d
-            → verdict text (length s) (wanting (onSum sum run) ks) (namesPast run ns)
-            ≡ verdict text (length (drop j s)) (wanting (onSum sum (some (thenAfter run (here .factor)))) ks) (ns ++ names (thenAfter run (here .factor)))
-        reaches run ns rs here sum text ks h k =
-            here .goes sum text ks h k ∙ on text h (onSum sum run) (here .factor) ks (ns ++ names (thenAfter run (here .factor)))
-            ∙ ap (λ (i : ℕ). verdict text i (wanting (onSum sum (some (thenAfter run (here .factor)))) ks) (ns ++ names (thenAfter run (here .factor))))
-            (sym (length-drop j s))
+      within-next : f .left ≤ length s - j
+      within-next = omega (arith, next .within, length-drop j s)
 
-        by : (run : Option Expr) (ns : List Name) (rs : List ℕ) (here : So-far run ns rs)
-            → Either-way r
-            ((run′ : Option Expr) × (g : Expr) × Part-read (drop j s) r endsSequence ns rs (thenAfter run′ g)
-            × ((sum : Option Expr)
-            → Goes (drop j s) (r .left) d (λ ks. wanting (onSum sum (some (thenAfter run (here .factor)))) ks)
-            (ns ++ names (thenAfter run (here .factor))) (λ ks. having (onSum sum run′) g ks) (ns ++ names (thenAfter run′ g))))
-            ((sum : Option Expr) → Stops (drop j s) r d (λ ks. wanting (onSum sum (some (thenAfter run (here .factor)))) ks)
-            (ns ++ names (thenAfter run (here .factor))))
-            → Either-way r
-            ((run′ : Option Expr) × (g : Expr) × Part-read s r endsSequence ns rs (thenAfter run′ g)
-            × ((sum : Option Expr)
-            → Goes s (r .left) d (λ ks. wanting (onSum sum run) ks) (namesPast run ns)
-            (λ ks. having (onSum sum run′) g ks) (ns ++ names (thenAfter run′ g))))
-            ((sum : Option Expr) → Stops s r d (λ ks. wanting (onSum sum run) ks) (namesPast run ns))
-        by run ns rs here (inl (y, (run′, g, read, goes))) =
-            let same-behind = behind-part s j r fits (omega (arith, onward-read .within, length-drop j s)) in
-            inl (
-              y,
-              (
-                run′,
-                g,
-                record {
-                  part = read .part;
-                  fine = read .fine;
-                  ended = ap (λ (x : Read). endsSequence (x .token)) (sym same-behind) ∙ read .ended;
-                },
-                λ sum text ks h k. reaches run ns rs here sum text ks h k ∙ goes sum text ks (tail-drop text s h j fits) k,
-              ),
-            )
-        by run ns rs here (inr (n, stops)) =
-            inr (n, λ sum text ks h k. reaches run ns rs here sum text ks h k ∙ stops sum text ks (tail-drop text s h j fits) k)
+      -- the machine comes to where it has to stand
+      reaches : (ns : List Name) (rs : List ℕ) (here : So-far ns rs) (sum : Option Expr) (text : List ℕ) (ks : List Left)
+          → Tail text s → length ks ≡ d
+          → verdict text (length s) (wanting (onSum sum none) ks) ns
+          ≡ verdict text (length (drop j s)) (wanting (onSum sum (some (thenAfter (here .run) (here .factor)))) ks)
+          (ns ++ names (thenAfter (here .run) (here .factor)))
+      reaches ns rs here sum text ks h k =
+          let whole = thenAfter (here .run) (here .factor) in
+          here .goes sum text ks h k ∙ on .on text h (onSum sum (here .run)) (here .factor) ks (ns ++ names whole)
+          ∙ ap (λ (i : ℕ). verdict text i (wanting (onSum sum (some whole)) ks) (ns ++ names whole)) (sym (length-drop j s))
 
-    -- as the program has it: u is the token that it reads behind the factor
-    module _ (u : Read) (told-next : u ≡ nextToken (slice s (length s - q .left))) where
-      there : u ≡ behind s q
-      there = is-behind s q u told-next
+      next-outcome : (ns : List Name) (rs : List ℕ) (here : So-far ns rs)
+          → Either-way f ((g : Expr)
+          × Part-read (drop j s) f endsFactor (ns ++ names (thenAfter (here .run) (here .factor)))
+          (rowsAfter (thenAfter (here .run) (here .factor)) (length ns) rs) g
+          × ((l : Left)
+          → Goes (drop j s) (f .left) d (λ ks. wanting l ks) (ns ++ names (thenAfter (here .run) (here .factor)))
+          (λ ks. having l g ks) ((ns ++ names (thenAfter (here .run) (here .factor))) ++ names g)))
+          ((l : Left) → Stops (drop j s) f d (λ ks. wanting l ks) (ns ++ names (thenAfter (here .run) (here .factor))))
+      next-outcome ns rs here =
+          let whole = thenAfter (here .run) (here .factor) in
+          next .outcome (ns ++ names whole) (rowsAfter whole (length ns) rs) (table-so-far q whole ns rs (here .read .part)) (here .read .fine)
 
-      token-there : behind s q .token ≡ u .token
-      token-there = ap (λ (x : Read). x .token) (sym there)
+      -- and is refused
+      pub factor-refused : (f .number ≡ 0 → ⊥) → SequenceRead endsSequence s d t f
+      factor-refused some-number =
+          record {
+            within = omega (arith, within-next);
+            fewer = λ y. absurd (some-number y);
+            outcome = λ ns rs same fine. let here = so-far ns rs same fine in by ns rs here (next-outcome ns rs here);
+          }
+        where
+          by : {W X : Type 0} (ns : List Name) (rs : List ℕ) (here : So-far ns rs)
+              → Either-way f W ((l : Left) → Stops (drop j s) f d (λ ks. wanting l ks) (ns ++ names (thenAfter (here .run) (here .factor))))
+              → Either-way f X ((sum : Option Expr) → Stops s f d (λ ks. wanting (onSum sum none) ks) ns)
+          by ns rs here (inl (y, went)) = absurd (some-number y)
+          by ns rs here (inr (n, stops)) =
+              inr (
+                n,
+                λ sum text ks h k.
+                    reaches ns rs here sum text ks h k
+                    ∙ stops (onSum sum (some (thenAfter (here .run) (here .factor)))) text ks (tail-drop text s h j (on .fits)) k,
+              )
 
-      pub sequence-semicolon : u .token ≡ Semicolon → (r : Reading)
-          → SequenceRead (slice s (length s - q .left + u .used)) d (record { some = true; part = q .part }) r → SequenceRead s d b r
-      sequence-semicolon is r read-on =
-          sequence-on (length s - q .left + behind s q .used) (omega (arith, left-within, behind-fits s q left-within))
-          (over-semicolon s q left-within (token-there ∙ is)) r
-          (subst (λ (x : Read). SequenceRead (slice s (length s - q .left + x .used)) d (record { some = true; part = q .part }) r) there read-on)
+      -- or read, and the sequence is longer by it
+      pub factor-shorter : f .number ≡ 0 → f .left < q .left
+      factor-shorter y = omega (arith, next .fewer y, length-drop j s, on .less)
 
-      module _ (r : Reading) (read-on : SequenceRead (slice s (length s - q .left)) d (record { some = true; part = q .part }) r) where
-        pub sequence-name : (m : ℕ) → u .token ≡ Named m → SequenceRead s d b r
-        sequence-name m is =
-            sequence-on (length s - q .left) (omega arith) (before-name s q left-within m (token-there ∙ is)) r read-on
-
-        pub sequence-open : u .token ≡ Open → SequenceRead s d b r
-        sequence-open is =
-            sequence-on (length s - q .left) (omega arith) (before-open s q left-within (token-there ∙ is)) r read-on
-
-      pub sequence-stops : (endsFactor (u .token) ≡ true → endsSequence (u .token) ≡ true) → SequenceRead s d b q
-      sequence-stops ends = sequence-ends (rw there at ends)
+      pub sequence-grows : f .number ≡ 0 → (r : Reading) → r ≡ thenRead q f → SequenceRead endsFactor s d t r
+      sequence-grows y r joined =
+          subst (SequenceRead endsFactor s d t) (sym joined)
+          record {
+            within = omega (arith, within-next);
+            fewer = λ _. omega (arith, next .fewer y, length-drop j s);
+            outcome = λ ns rs same fine. let here = so-far ns rs same fine in by ns rs here (next-outcome ns rs here);
+          }
+        where
+          by : {S T : Type 0} (ns : List Name) (rs : List ℕ) (here : So-far ns rs)
+              → Either-way f ((g : Expr)
+              × Part-read (drop j s) f endsFactor (ns ++ names (thenAfter (here .run) (here .factor)))
+              (rowsAfter (thenAfter (here .run) (here .factor)) (length ns) rs) g
+              × ((l : Left)
+              → Goes (drop j s) (f .left) d (λ ks. wanting l ks) (ns ++ names (thenAfter (here .run) (here .factor)))
+              (λ ks. having l g ks) ((ns ++ names (thenAfter (here .run) (here .factor))) ++ names g))) S
+              → Either-way (thenRead q f) ((run : Option Expr) × (g : Expr) × Part-read s (thenRead q f) endsFactor ns rs (thenAfter run g)
+              × ((sum : Option Expr)
+              → Goes s (f .left) d (λ ks. wanting (onSum sum none) ks) ns (λ ks. having (onSum sum run) g ks) (ns ++ names (thenAfter run g)))) T
+          by ns rs here (inr (n, stops)) = absurd (n y)
+          by ns rs here (inl (x, (g, read, goes))) =
+              let whole = thenAfter (here .run) (here .factor) in
+              let all = names-then whole g ns in
+              let there = behind-part s j f (on .fits) within-next in
+              inl (
+                y,
+                (
+                  some whole,
+                  g,
+                  record {
+                    part = then-joined q whole ns rs (here .read .part) f g (read .part);
+                    fine = subst Fine (sym all) (read .fine);
+                    ended = ap (λ (v : Read). endsFactor (v .token)) (sym there) ∙ read .ended;
+                  },
+                  λ sum text ks h k.
+                      reaches ns rs here sum text ks h k ∙ goes (onSum sum (some whole)) text ks (tail-drop text s h j (on .fits)) k
+                      ∙ ap (verdict text (f .left) (having (onSum sum (some whole)) g ks)) (sym all),
+                ),
+              )

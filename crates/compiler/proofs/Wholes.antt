@@ -3,7 +3,6 @@ use mathlib.Core.Path.{_≡_, refl, sym, ap, ap₂, subst, _∙_}
 use mathlib.Core.Bool.{Bool, true, false, cond, true≢false}
 use mathlib.Core.List.{List, [], _∷_, _++_}
 use mathlib.Core.Logic.{inl, inr}
-use mathlib.Core.Option.{none}
 use Prim.Native.Nat.{ℕ, _+_, _-_, _≤_, _<_}
 use native.Mathlib.Omega.{arith}
 use borrow.Author.Tests.{eq-eqb, ne-eqb, lt-ltb, le-ltb}
@@ -33,9 +32,8 @@ use Rattle.parts.specs.Progress.{noted, Fine, partOf}
 use Rattle.parts.specs.declared.joining.Part.{Part}
 use Rattle.parts.proofs.NameParts.{nothing-fine}
 use Rattle.parts.proofs.Completed.{completed-part}
-use Rattle.compiler.specs.Reading.{Tail, Goes, ExpressionRead, Part-read, Either-way, Stops, onSum, verdict, behind, endsExpression, isPath, isEnd, isTextEnd, refusedAt, concluded, endBy, ended, noneBefore, unfit}
+use Rattle.compiler.specs.Reading.{Tail, Goes, ExpressionRead, Part-read, Either-way, Stops, onSum, verdict, behind, endsExpression, isPath, isEnd, isTextEnd, refusedAt, concluded, endBy, ended, unfit}
 use Rattle.compiler.specs.Compiling.{answered, compiled}
-use Rattle.compiler.specs.declared.readers.Before.{Before}
 use Rattle.compiler.specs.declared.readers.Reading.{Reading}
 use Rattle.compiler.specs.declared.replies.Compiled.{Compiled}
 use Rattle.compiler.specs.declared.replies.Reply.the-variants.{Accepted as Accepts}
@@ -147,8 +145,8 @@ module _ (text : List ℕ) (short : length text ≤ 4096) where
       ∙ sym (verdict-stuck text text (tail-whole text) outside [] (outside-stuck T _ (ap (λ (v : Read). isPath (v .token)) (sym told) ∙ other)))))
 
   -- the text starts with `path`, and e was read behind it
-  module _ (is-path-token : nextToken text .token ≡ Path) (none-yet : Before) (t : Table) (e : Reading)
-      (is-none : none-yet ≡ noneBefore t) (is-zeros : t ≡ zeros) (told : ExpressionRead (slice text (nextToken text .used)) 0 none-yet e) where
+  module _ (is-path-token : nextToken text .token ≡ Path) (t : Table) (e : Reading) (is-zeros : t ≡ zeros)
+      (told : ExpressionRead endsExpression (slice text (nextToken text .used)) 0 t e) where
     inside : List ℕ
     inside = drop (nextToken text .used) text
 
@@ -156,11 +154,9 @@ module _ (text : List ℕ) (short : length text ≤ 4096) where
     unfolding inside
     size-inside = length-drop (nextToken text .used) text
 
-    inner : ExpressionRead inside 0 (noneBefore t) e
+    inner : ExpressionRead endsExpression inside 0 t e
     unfolding inside
-    inner =
-        subst (λ (b : Before). ExpressionRead (drop (nextToken text .used) text) 0 b e) is-none
-        (subst (λ (v : List ℕ). ExpressionRead v 0 none-yet e) (slice-drops text (nextToken text .used)) told)
+    inner = subst (λ (v : List ℕ). ExpressionRead endsExpression v 0 t e) (slice-drops text (nextToken text .used)) told
 
     within-all : e .left ≤ length text
     within-all = omega (arith, inner .within, size-inside)
@@ -274,7 +270,7 @@ module _ (text : List ℕ) (short : length text ≤ 4096) where
 
     pub compile-path : (r : Compiled) → r ≡ ended text e → r ≡ compiled text
     compile-path r is =
-        answers r (is ∙ by (inner .outcome none [] (replicate 64 0) (refl, is-zeros ∙ nothing-noted) nothing-fine) ∙ ap answered (sym enters))
+        answers r (is ∙ by (inner .outcome [] (replicate 64 0) (is-zeros ∙ nothing-noted) nothing-fine) ∙ ap answered (sym enters))
       where
         by : Either-way e
             ((l : Left) × (f : Expr) × Part-read inside e endsExpression [] (replicate 64 0) (sumTo l f)
@@ -285,10 +281,10 @@ module _ (text : List ℕ) (short : length text ≤ 4096) where
         by (inr (some-number, stops)) = refused-there some-number ∙ ap answered (sym (stops text [] tail-inside refl))
 
   -- as the program has it: u is the first token, which it reads
-  pub starts-with-path : (u : Read) → u ≡ nextToken text → u .token ≡ Path → (none-yet : Before) (t : Table) (e : Reading)
-      → none-yet ≡ noneBefore t → t ≡ zeros → ExpressionRead (slice text (u .used)) 0 none-yet e → (r : Compiled) → r ≡ ended text e → r ≡ compiled text
+  pub starts-with-path : (u : Read) → u ≡ nextToken text → u .token ≡ Path → (t : Table) (e : Reading) → t ≡ zeros
+      → ExpressionRead endsExpression (slice text (u .used)) 0 t e → (r : Compiled) → r ≡ ended text e → r ≡ compiled text
   starts-with-path u told =
       subst
       (λ (v : Read).
-      v .token ≡ Path → (none-yet : Before) (t : Table) (e : Reading) → none-yet ≡ noneBefore t → t ≡ zeros
-      → ExpressionRead (slice text (v .used)) 0 none-yet e → (r : Compiled) → r ≡ ended text e → r ≡ compiled text) (sym told) compile-path
+      v .token ≡ Path → (t : Table) (e : Reading) → t ≡ zeros → ExpressionRead endsExpression (slice text (v .used)) 0 t e
+      → (r : Compiled) → r ≡ ended text e → r ≡ compiled text) (sym told) compile-path

@@ -15,18 +15,19 @@ use Rattle.text.specs.declared.tokens.Token.{Token}
 use Rattle.text.specs.declared.tokens.Token.the-variants.{Semicolon, Plus, Star, Open, Close, Path, End, Name as Named, TextEnd, Bad, Long}
 use Rattle.text.specs.declared.tokens.Read.{Read}
 use Rattle.grammar.specs.Symbols.{itemsFrom}
-use Rattle.grammar.specs.Machine.{Left, State, Verdict, judgeFrom, thenAfter, sumTo}
+use Rattle.grammar.specs.Machine.{Left, State, Verdict, judgeFrom, nothingLeft, thenAfter, sumTo}
 use Rattle.grammar.specs.Machine.State.{wanting, having}
 use Rattle.grammar.specs.Machine.Verdict.{refused}
 use Rattle.table.specs.Cells.{zeros}
 use Rattle.table.specs.declared.cells.Table.{Table}
 use Rattle.parts.specs.declared.joining.Part.{Part}
 use Rattle.parts.specs.Parts.{either, then, starred, completed}
-use Rattle.parts.specs.Progress.{noted, Fine, partOf, rowsAfter, starTimes}
+use Rattle.parts.specs.Progress.{noted, Fine, partOf, starTimes}
 use Rattle.compiler.specs.declared.replies.Compiled.{Compiled}
 use Rattle.compiler.specs.declared.replies.Reply.the-variants.{Accepted as Accepts, Refused as Refuses}
 use Rattle.compiler.specs.declared.readers.Reading.{Reading}
-use Rattle.compiler.specs.declared.readers.Before.{Before}
+use Rattle.compiler.specs.declared.readers.Onward.{Onward}
+use Rattle.compiler.specs.declared.readers.Onward.the-variants.{At, Ends}
 use Rattle.compiler.specs.declared.readers.Starring.{Starring}
 
 -- the number by which a token is refused where it does not fit
@@ -49,11 +50,12 @@ halted n left t = record { number = n; left = left; part = record { empty = fals
 abbrev pub withPart : Reading → Part → Reading
 withPart r p = record { number = r .number; left = r .left; part = p }
 
-unfoldable pub thenRead : Before → Reading → Reading
-thenRead l r = cond (l .some) (withPart r (then (l .part) (r .part))) r
+-- l and then r, l or r
+abbrev pub thenRead : Reading → Reading → Reading
+thenRead l r = withPart r (then (l .part) (r .part))
 
-unfoldable pub orRead : Before → Reading → Reading
-orRead l r = cond (l .some) (withPart r (either (l .part) (r .part))) r
+abbrev pub orRead : Reading → Reading → Reading
+orRead l r = withPart r (either (l .part) (r .part))
 
 -- the token behind what was read
 abbrev pub behind : List ℕ → Reading → Read
@@ -179,6 +181,44 @@ endsExpression TextEnd = true
 endsExpression Bad = true
 endsExpression Long = true
 
+-- where the next factor of a sequence starts, by the token at byte k: behind a `;`, or at once
+abbrev pub factorBy : Token → ℕ → ℕ → Onward
+factorBy Semicolon k used = At (k + used)
+factorBy Plus k used = Ends
+factorBy Star k used = Ends
+factorBy Open k used = At k
+factorBy Close k used = Ends
+factorBy Path k used = Ends
+factorBy End k used = Ends
+factorBy (Named n) k used = At k
+factorBy TextEnd k used = Ends
+factorBy Bad k used = Ends
+factorBy Long k used = Ends
+
+-- where the next sequence of a sum starts: behind a `+`
+abbrev pub sequenceBy : Token → ℕ → ℕ → Onward
+sequenceBy Semicolon k used = Ends
+sequenceBy Plus k used = At (k + used)
+sequenceBy Star k used = Ends
+sequenceBy Open k used = Ends
+sequenceBy Close k used = Ends
+sequenceBy Path k used = Ends
+sequenceBy End k used = Ends
+sequenceBy (Named n) k used = Ends
+sequenceBy TextEnd k used = Ends
+sequenceBy Bad k used = Ends
+sequenceBy Long k used = Ends
+
+-- the same where `left` bytes of s are unread
+abbrev pub fromBy : (Token → ℕ → ℕ → Onward) → List ℕ → ℕ → Onward
+fromBy by s left = by (nextToken (drop (length s - left) s) .token) (length s - left) (nextToken (drop (length s - left) s) .used)
+
+abbrev pub factorFrom : List ℕ → ℕ → Onward
+factorFrom = fromBy factorBy
+
+abbrev pub sequenceFrom : List ℕ → ℕ → Onward
+sequenceFrom = fromBy sequenceBy
+
 -- the text, from where `left` bytes are unread
 abbrev pub rest : List ℕ → ℕ → List ℕ
 rest text left = drop (length text - left) text
@@ -230,23 +270,6 @@ pub record Part-read (s : List ℕ) (r : Reading) (ends : Token → Bool) (ns : 
   pub fine : Fine (ns ++ names e)
   pub ended : ends (behind s r .token) ≡ true
 
--- the names and the rows behind an expression, if there is one
-abbrev pub namesPast : Option Expr → List Name → List Name
-namesPast none ns = ns
-namesPast (some e) ns = ns ++ names e
-
-abbrev pub rowsPast : Option Expr → List Name → List ℕ → List ℕ
-rowsPast none ns rs = rs
-rowsPast (some e) ns rs = rowsAfter e (length ns) rs
-
--- what stands before is the expression, if there is one, read behind the names ns with the rows rs
-abbrev pub Stands : Before → Option Expr → List Name → List ℕ → Type 0
-Stands b none ns rs = (b .some ≡ false) × (b .part .table ≡ noted ns rs)
-Stands b (some e) ns rs = (b .some ≡ true) × (b .part ≡ partOf e ns rs)
-
-abbrev pub noneBefore : Table → Before
-noneBefore t = record { some = false; part = record { empty = false; first = 0; last = 0; table = t } }
-
 -- a reading is one of two: a part, or a refusal
 abbrev pub Either-way : Reading → Type 0 → Type 0 → Type 0
 Either-way r goes stops = ((r .number ≡ 0) × goes) ⊎ ((r .number ≡ 0 → ⊥) × stops)
@@ -263,20 +286,21 @@ pub record FactorRead (s : List ℕ) (d : ℕ) (t : Table) (r : Reading) : Type 
       × ((l : Left) → Goes s (r .left) d (λ ks. wanting l ks) ns (λ ks. having l f ks) (ns ++ names f)))
       ((l : Left) → Stops s r d (λ ks. wanting l ks) ns)
 
-pub record SequenceRead (s : List ℕ) (d : ℕ) (b : Before) (r : Reading) : Type 0 where
+-- `ends` tells the tokens that may stand behind what was read
+pub record SequenceRead (ends : Token → Bool) (s : List ℕ) (d : ℕ) (t : Table) (r : Reading) : Type 0 where
   pub within : r .left ≤ length s
-  pub outcome : (run : Option Expr) (ns : List Name) (rs : List ℕ) → Stands b run ns rs → Fine (namesPast run ns)
+  pub fewer : r .number ≡ 0 → r .left < length s
+  pub outcome : (ns : List Name) (rs : List ℕ) → t ≡ noted ns rs → Fine ns
       → Either-way r
-      ((run′ : Option Expr) × (f : Expr) × Part-read s r endsSequence ns rs (thenAfter run′ f)
+      ((run : Option Expr) × (f : Expr) × Part-read s r ends ns rs (thenAfter run f)
       × ((sum : Option Expr)
-      → Goes s (r .left) d (λ ks. wanting (onSum sum run) ks) (namesPast run ns)
-      (λ ks. having (onSum sum run′) f ks) (ns ++ names (thenAfter run′ f))))
-      ((sum : Option Expr) → Stops s r d (λ ks. wanting (onSum sum run) ks) (namesPast run ns))
+      → Goes s (r .left) d (λ ks. wanting (onSum sum none) ks) ns (λ ks. having (onSum sum run) f ks) (ns ++ names (thenAfter run f))))
+      ((sum : Option Expr) → Stops s r d (λ ks. wanting (onSum sum none) ks) ns)
 
-pub record ExpressionRead (s : List ℕ) (d : ℕ) (b : Before) (r : Reading) : Type 0 where
+pub record ExpressionRead (ends : Token → Bool) (s : List ℕ) (d : ℕ) (t : Table) (r : Reading) : Type 0 where
   pub within : r .left ≤ length s
-  pub outcome : (sum : Option Expr) (ns : List Name) (rs : List ℕ) → Stands b sum ns rs → Fine (namesPast sum ns)
+  pub outcome : (ns : List Name) (rs : List ℕ) → t ≡ noted ns rs → Fine ns
       → Either-way r
-      ((l : Left) × (f : Expr) × Part-read s r endsExpression ns rs (sumTo l f)
-      × Goes s (r .left) d (λ ks. wanting (onSum sum none) ks) (namesPast sum ns) (λ ks. having l f ks) (ns ++ names (sumTo l f)))
-      (Stops s r d (λ ks. wanting (onSum sum none) ks) (namesPast sum ns))
+      ((l : Left) × (f : Expr) × Part-read s r ends ns rs (sumTo l f)
+      × Goes s (r .left) d (λ ks. wanting nothingLeft ks) ns (λ ks. having l f ks) (ns ++ names (sumTo l f)))
+      (Stops s r d (λ ks. wanting nothingLeft ks) ns)

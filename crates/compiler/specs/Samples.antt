@@ -51,11 +51,11 @@ no-path t n k = record { text = t; reads = record { answer-is = refused n k; row
 abbrev pub samples : List Sample
 samples =
     path "path a b (a + b*) c end"
-      ((2 ∷ []) ∷ (3 ∷ 4 ∷ 5 ∷ []) ∷ (5 ∷ []) ∷ (4 ∷ 5 ∷ []) ∷ (1 ∷ []) ∷ []) (1 ∷ []) 0
+    ((2 ∷ []) ∷ (3 ∷ 4 ∷ 5 ∷ []) ∷ (5 ∷ []) ∷ (4 ∷ 5 ∷ []) ∷ (1 ∷ []) ∷ []) (1 ∷ []) 0
     ∷ path "path write (write (write read)* read)* read end"
-      ((2 ∷ 6 ∷ []) ∷ (3 ∷ 5 ∷ []) ∷ (4 ∷ []) ∷ (3 ∷ 5 ∷ []) ∷ (2 ∷ 6 ∷ []) ∷ (1 ∷ []) ∷ []) (1 ∷ []) 0
+    ((2 ∷ 6 ∷ []) ∷ (3 ∷ 5 ∷ []) ∷ (4 ∷ []) ∷ (3 ∷ 5 ∷ []) ∷ (2 ∷ 6 ∷ []) ∷ (1 ∷ []) ∷ []) (1 ∷ []) 0
     ∷ path "path a (b + b (a b)*) end"
-      ((2 ∷ 3 ∷ []) ∷ (1 ∷ []) ∷ (1 ∷ 4 ∷ []) ∷ (5 ∷ []) ∷ (1 ∷ 4 ∷ []) ∷ []) (1 ∷ []) 0
+    ((2 ∷ 3 ∷ []) ∷ (1 ∷ []) ∷ (1 ∷ 4 ∷ []) ∷ (5 ∷ []) ∷ (1 ∷ 4 ∷ []) ∷ []) (1 ∷ []) 0
     ∷ path "path a* end" ((1 ∷ []) ∷ []) (1 ∷ []) 1
     ∷ no-path "" 4 0
     ∷ no-path "path end" 4 5

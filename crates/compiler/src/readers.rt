@@ -3,7 +3,7 @@
 ghost use mathlib.Core.Path.{_≡_};
 ghost use Prim.Native.Nat.{_+_, _≤_};
 ghost use lib.ListN.{length};
-ghost use Rattle.compiler.specs.Reading.{unfit, halted, noneBefore, closed, thenRead, orRead, refusedAt, concluded, ended, Starred, Starry, FactorRead, SequenceRead, ExpressionRead};
+ghost use Rattle.compiler.specs.Reading.{unfit, halted, closed, thenRead, orRead, factorFrom, sequenceFrom, endsSequence, endsExpression, refusedAt, concluded, ended, Starred, Starry, FactorRead, SequenceRead, ExpressionRead};
 ghost use Rattle.compiler.specs.Compiling.{Compiles};
 use crate::replies::Compiled;
 use crate::replies::Refusal;
@@ -26,10 +26,10 @@ pub struct Reading {
     pub part: Part,
 }
 
-// What stands before the place within one pair of parentheses: a part, or nothing but the table so far.
-pub struct Before {
-    pub some: bool,
-    pub part: Part,
+// Whether a sequence or a sum goes on, and at which byte.
+pub enum Onward {
+    At(usize),
+    Ends,
 }
 
 // Whether any `*` was read, and how many bytes were used up by them.
@@ -73,53 +73,70 @@ fn halt(number: u8, left: usize, t: Table) -> Reading
     }
 }
 
-// Nothing but the table so far.
-fn nothing(t: Table) -> Before
-    ensures { λ r. ⌜ r ≡ noneBefore t ⌝ }
-{
-    Before {
-        some: false,
-        part: Part {
-            empty: false,
-            first: 0,
-            last: 0,
-            table: t,
-        },
-    }
-}
-
-// The sequence before r, and then r.
-fn then_after(l: Before, r: Reading) -> Reading
+// l and then r, which was read after l.
+fn then_read(l: Reading, r: Reading) -> Reading
     ensures { λ q. ⌜ q ≡ thenRead l r ⌝ }
 {
-    if l.some {
-        let a = l.part;
-        let b = r.part;
-        let part = then_part(a, b);
-        return Reading {
-            number: r.number,
-            left: r.left,
-            part: part,
-        };
+    let a = l.part;
+    let b = r.part;
+    let part = then_part(a, b);
+    Reading {
+        number: r.number,
+        left: r.left,
+        part: part,
     }
-    r
 }
 
-// The sum before r, or r.
-fn or_after(l: Before, r: Reading) -> Reading
+// l or r, which was read after l.
+fn or_read(l: Reading, r: Reading) -> Reading
     ensures { λ q. ⌜ q ≡ orRead l r ⌝ }
 {
-    if l.some {
-        let a = l.part;
-        let b = r.part;
-        let part = either_part(a, b);
-        return Reading {
-            number: r.number,
-            left: r.left,
-            part: part,
-        };
+    let a = l.part;
+    let b = r.part;
+    let part = either_part(a, b);
+    Reading {
+        number: r.number,
+        left: r.left,
+        part: part,
     }
-    r
+}
+
+// The table of all that was read so far.
+fn table_of(r: Reading) -> Table
+    ensures { λ t. ⌜ t ≡ r .part .table ⌝ }
+{
+    let part = r.part;
+    part.table
+}
+
+// Where the next factor of a sequence starts: behind a `;`, or at once.
+fn next_factor(s: &[u8], left: usize) -> Onward
+    requires { ⌜ left ≤ length (now s) ⌝ }
+    ensures { λ r. ⌜ r ≡ factorFrom (now (s .entry)) left ⌝ }
+{
+    let k = s.len() - left;
+    let r = next(&s[k..]);
+    let token = r.token;
+    match token {
+        Token::Semicolon => Onward::At(k + r.used),
+        Token::Name(_) => Onward::At(k),
+        Token::Open => Onward::At(k),
+        _ => Onward::Ends,
+    }
+}
+
+// Where the next sequence of a sum starts: behind a `+`.
+fn next_sequence(s: &[u8], left: usize) -> Onward
+    requires { ⌜ left ≤ length (now s) ⌝ }
+    ensures { λ r. ⌜ r ≡ sequenceFrom (now (s .entry)) left ⌝ }
+{
+    let k = s.len() - left;
+    let r = next(&s[k..]);
+    let token = r.token;
+    match token {
+        Token::Plus => Onward::At(k + r.used),
+        _ => Onward::Ends,
+    }
 }
 
 // Any number of `*`, in a loop: thousands of them must not deepen the stack.
@@ -195,66 +212,55 @@ fn close(s: &[u8], e: Reading) -> Reading
     }
 }
 
-// An expression, behind the sum before it: a sequence, and after a `+` the rest.
-fn expression(s: &[u8], depth: usize, sum: Before) -> Reading
-    ensures { λ r. ⌜ ExpressionRead (now (s .entry)) depth sum r ⌝ }
+// An expression: a sequence, and another behind each `+`.
+fn expression(s: &[u8], depth: usize, t: Table) -> Reading
+    ensures { λ r. ⌜ ExpressionRead endsExpression (now (s .entry)) depth t r ⌝ }
 {
-    let so_far = sum.part;
-    let t = so_far.table;
-    let q = sequence(s, depth, nothing(t));
-    if q.number != 0 {
-        return q;
+    let mut e = sequence(s, depth, t);
+    if e.number != 0 {
+        return e;
     }
-    let e = or_after(sum, q);
-    let left = e.left;
-    let k = s.len() - left;
-    let r = next(&s[k..]);
-    let token = r.token;
-    match token {
-        Token::Plus => {
-            let part = e.part;
-            let from = k + r.used;
-            expression(
-                &s[from..],
-                depth,
-                Before {
-                    some: true,
-                    part: part,
-                },
-            )
+    loop {
+        let left = e.left;
+        let onward = next_sequence(s, left);
+        match onward {
+            Onward::At(from) => {
+                let q = sequence(&s[from..], depth, table_of(e));
+                if q.number != 0 {
+                    return q;
+                }
+                e = or_read(e, q);
+            }
+            Onward::Ends => {
+                return e;
+            }
         }
-        _ => e,
     }
 }
 
-// A sequence, behind the one before it: a factor, and after it, with a `;` or without, the rest.
-fn sequence(s: &[u8], depth: usize, run: Before) -> Reading
-    ensures { λ r. ⌜ SequenceRead (now (s .entry)) depth run r ⌝ }
+// A sequence: a factor, and another behind each `;` or at once.
+fn sequence(s: &[u8], depth: usize, t: Table) -> Reading
+    ensures { λ r. ⌜ SequenceRead endsSequence (now (s .entry)) depth t r ⌝ }
 {
-    let so_far = run.part;
-    let t = so_far.table;
-    let f = factor(s, depth, t);
-    if f.number != 0 {
-        return f;
+    let mut q = factor(s, depth, t);
+    if q.number != 0 {
+        return q;
     }
-    let q = then_after(run, f);
-    let left = q.left;
-    let part = q.part;
-    let before = Before {
-        some: true,
-        part: part,
-    };
-    let k = s.len() - left;
-    let r = next(&s[k..]);
-    let token = r.token;
-    match token {
-        Token::Semicolon => {
-            let from = k + r.used;
-            sequence(&s[from..], depth, before)
+    loop {
+        let left = q.left;
+        let onward = next_factor(s, left);
+        match onward {
+            Onward::At(from) => {
+                let f = factor(&s[from..], depth, table_of(q));
+                if f.number != 0 {
+                    return f;
+                }
+                q = then_read(q, f);
+            }
+            Onward::Ends => {
+                return q;
+            }
         }
-        Token::Name(_) => sequence(&s[k..], depth, before),
-        Token::Open => sequence(&s[k..], depth, before),
-        _ => q,
     }
 }
 
@@ -288,7 +294,7 @@ fn factor(s: &[u8], depth: usize, t: Table) -> Reading
                 return halt(5, n - start, t);
             }
             let from = r.used;
-            let e = expression(&s[from..], depth + 1, nothing(t));
+            let e = expression(&s[from..], depth + 1, t);
             starry(s, close(s, e))
         }
         _ => halt(number_of(token), n - start, t),
@@ -362,7 +368,7 @@ pub fn compile(text: &[u8]) -> Compiled
     match token {
         Token::Path => {
             let from = r.used;
-            let e = expression(&text[from..], 0, nothing(no_table()));
+            let e = expression(&text[from..], 0, no_table());
             end(text, e)
         }
         _ => refuse(number_of(token), r.start),

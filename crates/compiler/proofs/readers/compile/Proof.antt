@@ -1,3 +1,5 @@
+-- `readers::compile` meets its contract: each way through it gives what the machine's verdict comes to (Wholes), and that fulfils
+-- `Compiles` (CompiledTexts).
 use mathlib.Core.Path.{_∙_}
 use native.Mathlib.Omega.{arith}
 use borrow.Author.Needs.{needs}
@@ -11,72 +13,67 @@ use Rattle.compiler.proofs.readers.compile.Reads as reads
 use Rattle.compiler.proofs.readers.compile.Lts as lts
 use Rattle.compiler.proofs.readers.end.Reads as end-reads
 use Rattle.compiler.proofs.readers.expression.Reads as expression-reads
-use Rattle.compiler.proofs.readers.nothing.Reads as nothing-reads
 use Rattle.compiler.proofs.readers.number_of.Reads as number-of-reads
 use Rattle.compiler.proofs.readers.refuse.Reads as refuse-reads
 use Rattle.table.proofs.cells.no_table.Reads as no-table-reads
 use Rattle.text.proofs.tokens.next.Reads as next-reads
 
--- src/readers.rt:358:9
+-- src/readers.rt:364:9
 refuse-requires : tie.Need-refuse-requires
 refuse-requires c κs = search needs
 
--- src/readers.rt:358:9
+-- src/readers.rt:364:9
 returns : tie.Need-returns
 returns c = compiles _ _ (c .refuse .ensures ∙ compile-long _ (c .before .if1 .taken))
 
--- src/readers.rt:360:9
+-- src/readers.rt:366:9
 next-requires : tie.Need-next-requires
 next-requires c κs = search needs
 
--- src/readers.rt:364:17
+-- src/readers.rt:370:17
 enum-told : tie.Need-enum-told
 enum-told c = search needs
 
--- src/readers.rt:365:32
+-- src/readers.rt:371:32
 sub-expression : tie.Need-sub-expression
 sub-expression c = used-fits _ _ (c .before .before .next .ensures)
 
--- src/readers.rt:365:32
+-- src/readers.rt:371:32
 part-expression-start : tie.Need-part-expression-start
 part-expression-start c = used-fits _ _ (c .before .before .next .ensures)
 
--- src/readers.rt:365:32
+-- src/readers.rt:371:32
 part-expression-end : tie.Need-part-expression-end
 part-expression-end c = search needs
 
--- src/readers.rt:365:58
+-- src/readers.rt:371:50
 no-table-requires : tie.Need-no-table-requires
 no-table-requires c κs = search needs
 
--- src/readers.rt:365:50
-nothing-requires : tie.Need-nothing-requires
-nothing-requires c κs = search needs
-
--- src/readers.rt:365:17
+-- src/readers.rt:371:17
 expression-requires : tie.Need-expression-requires
 expression-requires c κs = search needs
 
--- src/readers.rt:366:13
+-- src/readers.rt:372:13
 end-requires : tie.Need-end-requires
-end-requires c κs = (inside-fits _ _ (c .before .before .before .before .before .before .next .ensures) _ _ _ (c .expression .ensures), omega (arith, c .before .before .before .before .before .before .before .if1 .left))
+end-requires c κs = (inside-fits _ _ (c .before .before .before .before .before .next .ensures) _ _ _ (c .expression .ensures), omega (arith, c .before .before .before .before .before .before .if1 .left))
 
--- src/readers.rt:368:21
+-- src/readers.rt:374:21
 number-of-requires : tie.Need-number-of-requires
 number-of-requires c κs = search needs
 
--- src/readers.rt:368:14
+-- src/readers.rt:374:14
 refuse-requires-2 : tie.Need-refuse-requires-2
 refuse-requires-2 c κs = search needs
 
--- src/readers.rt:354:1
+-- src/readers.rt:360:1
 returns-2 : tie.Need-returns-2
 returns-2 c =
     compiles _ _
-    (starts-with-path _ (omega (arith, c .before .before .before .before .before .before .before .before .if1 .left)) _ (c .before .before .before .before .before .before .before .next .ensures) (c .before .before .before .before .before .enum-told .given .1) _ _ _
-    (c .before .before .nothing .ensures) (c .before .before .before .no-table .ensures) (c .before .expression .ensures) _ (c .end .ensures))
+    (starts-with-path _ (omega (arith, c .before .before .before .before .before .before .before .if1 .left)) _ (c .before .before .before .before .before .before .next .ensures) (c .before .before .before .before .enum-told .given .1) _ _
+    (c .before .before .no-table .ensures) (c .before .expression .ensures) _ (c .end .ensures))
 
--- src/readers.rt:354:1
+-- src/readers.rt:360:1
 returns-3 : tie.Need-returns-3
 returns-3 c =
     compiles _ _
@@ -95,7 +92,6 @@ compile-spec =
     part-expression-start
     part-expression-end
     no-table-requires
-    nothing-requires
     expression-requires
     end-requires
     number-of-requires

@@ -1,0 +1,63 @@
+use borrow.Author.Needs.{needs}
+use mathlib.Core.Path.{refl, sym}
+use native.Mathlib.Omega.{arith}
+use Rattle.compiler.specs.Reading.{sequenceBy}
+use Rattle.compiler.proofs.Arms.{no-sequence-there}
+use Rattle.compiler.proofs.Onwards.{next-fits, goes-by}
+use Rattle.compiler.proofs.readers.next_sequence.Statement.{statement}
+use Rattle.compiler.proofs.readers.next_sequence.Tie as tie
+use Rattle.compiler.proofs.readers.next_sequence.Reads as reads
+use Rattle.compiler.proofs.readers.next_sequence.Lts as lts
+use Rattle.text.proofs.tokens.next.Reads as next-reads
+
+-- src/readers.rt:133:13
+sub-k : tie.Need-sub-k
+sub-k c = search needs
+
+-- src/readers.rt:134:18
+sub-next : tie.Need-sub-next
+sub-next c = search needs
+
+-- src/readers.rt:134:18
+part-next-start : tie.Need-part-next-start
+part-next-start c = search needs
+
+-- src/readers.rt:134:18
+part-next-end : tie.Need-part-next-end
+part-next-end c = search needs
+
+-- src/readers.rt:134:9
+next-requires : tie.Need-next-requires
+next-requires c κs = search needs
+
+-- src/readers.rt:137:35
+enum-told : tie.Need-enum-told
+enum-told c = search needs
+
+-- src/readers.rt:137:35
+add-t11 : tie.Need-add-t11
+add-t11 c = omega (arith, next-fits (c .before .before .before .before .before .before .args .s .now) (c .before .before .before .before .before .before .args .left) _ (c .before .before .before .next .ensures) (c .before .before .before .before .before .before .pre), c .before .before .before .before .before .before .good)
+
+-- src/readers.rt:129:1
+returns : tie.Need-returns
+returns c = goes-by (c .before .before .before .before .before .before .args .s .now) (c .before .before .before .before .before .before .args .left) _ (c .before .before .before .next .ensures) sequenceBy _ (c .before .enum-told .given .1) _ refl
+
+-- src/readers.rt:129:1
+returns-2 : tie.Need-returns-2
+returns-2 c =
+    goes-by (c .before .before .before .before .args .s .now) (c .before .before .before .before .args .left) _ (c .before .next .ensures) sequenceBy _ refl _
+    (sym (no-sequence-there (c .before .next .result .token) _ _ (c .match .keys2)))
+
+pub next-sequence-spec : {M : Type 1} → statement M
+next-sequence-spec =
+    tie.close
+    (tie.spec
+    sub-k
+    sub-next
+    part-next-start
+    part-next-end
+    next-requires
+    enum-told
+    add-t11
+    returns
+    returns-2)

@@ -1,0 +1,17 @@
+use borrow.Author.Needs.{needs}
+use Rattle.compiler.proofs.readers.or_read.Statement.{statement}
+use Rattle.compiler.proofs.readers.or_read.Tie as tie
+use Rattle.compiler.proofs.readers.or_read.Reads as reads
+use Rattle.compiler.proofs.readers.or_read.Lts as lts
+use Rattle.parts.proofs.joining.either_part.Reads as either-part-reads
+
+-- src/readers.rt:96:9
+either-part-requires : tie.Need-either-part-requires
+either-part-requires c κs = search needs
+
+-- src/readers.rt:91:1
+returns : tie.Need-returns
+returns c = simp (c .either-part .ensures)
+
+pub or-read-spec : {M : Type 1} → statement M
+or-read-spec = tie.close (tie.spec either-part-requires returns)
