@@ -11,7 +11,7 @@ use Rattle.meaning.proofs.Numbering.{size-names}
 use Rattle.grammar.specs.Refusals.{Accepted, Refused}
 use Rattle.grammar.specs.Machine.{Verdict, judge}
 use Rattle.grammar.specs.Machine.Verdict.{accepted as judged, refused as declined}
-use Rattle.grammar.proofs.Judging.{judged-exactly, verdicts-exclusive}
+use Rattle.grammar.proofs.Judging.{judged-exactly, one-verdict}
 use Rattle.grammar.proofs.Naming.{names-as-written, names-well-formed}
 use Rattle.table.specs.Cells.{zeros}
 use Rattle.table.specs.Rules.{tableOf}
@@ -19,9 +19,10 @@ use Rattle.table.specs.Promises.{Limited}
 use Rattle.table.specs.declared.cells.Table.{Table}
 use Rattle.table.proofs.TableSound.{rules-table-sound}
 use Rattle.table.proofs.TablePermits.{rules-table-permits}
-use Rattle.compiler.specs.Compiling.{Answer, answer, Table-of-text, Compiles, answered, compiled}
+use Rattle.compiler.specs.Compiling.{Answer, answer, Table-of-text, Compiles}
+use Rattle.compiler.specs.Computed.{answered, compiled, Compiled-compiles}
 use Rattle.compiler.specs.Compiling.Answer.{accepted, refused}
-use Rattle.compiler.specs.Promises.{Answer-injective, Compile-determined, Compiled-compiles}
+use Rattle.compiler.specs.Promises.{Answer-injective, Compile-determined}
 use Rattle.compiler.specs.declared.replies.Refusal.{Refusal}
 use Rattle.compiler.specs.declared.replies.Reply.{Reply}
 use Rattle.compiler.specs.declared.replies.Reply.the-variants.{Accepted as Accepts, Refused as Refuses}
@@ -81,7 +82,7 @@ module _ (text : List ℕ) where
           λ h. absurd (not-both (judge text) e n k is (judged-exactly text .refuses n k .1 h)),
         );
         its-table = λ a h.
-            let same = verdicts-exclusive text .one-expression e a (judged-exactly text .accepts e .0 is) h in
+            let same = one-verdict text .one-expression e a (judged-exactly text .accepts e .0 is) h in
             subst (λ (x : Expr). Table-of-text a (tableOf x)) (sym same) (table-of-text text a h);
         no-table = λ n k h. absurd (not-both (judge text) e n k is (judged-exactly text .refuses n k .1 h));
       }
@@ -94,7 +95,7 @@ module _ (text : List ℕ) where
         refuses = λ m l. (
           λ z. judged-exactly text .refuses m l .0 (is ∙ ap₂ declined (ap number-in z) (ap place-in z)),
           λ h.
-              let same = verdicts-exclusive text .one-refusal n k m l (judged-exactly text .refuses n k .0 is) h in
+              let same = one-verdict text .one-refusal n k m l (judged-exactly text .refuses n k .0 is) h in
               ap₂ refused (same .0) (same .1),
         );
         its-table = λ a h. absurd (not-both (judge text) a n k (judged-exactly text .accepts a .1 h) is);

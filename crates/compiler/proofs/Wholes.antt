@@ -33,7 +33,7 @@ use Rattle.parts.specs.declared.joining.Part.{Part}
 use Rattle.parts.proofs.NameParts.{nothing-fine}
 use Rattle.parts.proofs.Completed.{completed-part}
 use Rattle.compiler.specs.Reading.{Tail, Goes, ExpressionRead, Part-read, Either-way, Stops, onSum, verdict, behind, endsExpression, isPath, isEnd, isTextEnd, refusedAt, concluded, endBy, ended, unfit}
-use Rattle.compiler.specs.Compiling.{answered, compiled}
+use Rattle.compiler.specs.Computed.{answered, compiled}
 use Rattle.compiler.specs.declared.readers.Reading.{Reading}
 use Rattle.compiler.specs.declared.replies.Compiled.{Compiled}
 use Rattle.compiler.specs.declared.replies.Reply.the-variants.{Accepted as Accepts}

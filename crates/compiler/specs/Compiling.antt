@@ -7,8 +7,6 @@ use Prim.Native.Nat.{ℕ}
 use Rattle.meaning.specs.Names.{Name}
 use Rattle.meaning.specs.Words.{Expr, Begins}
 use Rattle.grammar.specs.Refusals.{Accepted, Refused}
-use Rattle.grammar.specs.Machine.{Verdict, judge}
-use Rattle.grammar.specs.Machine.Verdict.{accepted as judged, refused as declined}
 use Rattle.table.specs.Cells.{zeros}
 use Rattle.table.specs.Following.{tablePermits}
 use Rattle.table.specs.Soundness.{Sound}
@@ -32,23 +30,14 @@ pub record Table-of-text (e : Expr) (t : Table) : Type 0 where
   -- it is the table of document 01's position rules
   pub by-the-rules : t ≡ tableOf e
   pub is-sound : Sound t
-  -- demand 2: it permits a history exactly if the history begins some repetition of the path
+  -- demand 2: it permits a history, of the names' keys, exactly if the history begins some repetition of the path
   pub permits-exactly : (h : List Name) → (tablePermits t h ≡ true) ↔ Begins e h
 
 pub record Compiles (text : List ℕ) (r : Compiled) : Type 0 where
-  -- "A text is accepted exactly if it fits the grammar and the limits"
+  -- a text is accepted exactly if it fits the grammar and the limits
   pub accepts : (answer (r .reply) ≡ accepted) ↔ ((e : Expr) × Accepted text e)
   -- and refused exactly by the number and with the place of the table of refusals
   pub refuses : (n k : ℕ) → (answer (r .reply) ≡ refused n k) ↔ Refused text n k
   pub its-table : (e : Expr) → Accepted text e → Table-of-text e (r .table)
   -- "A refused compile returns the table of zeros"
   pub no-table : (n k : ℕ) → Refused text n k → r .table ≡ zeros
-
--- what a verdict on a text comes to
-abbrev pub answered : Verdict → Compiled
-answered (judged e) = record { reply = Accepts; table = tableOf e }
-answered (declined n k) = record { reply = Refuses (record { number = n; place = k }); table = zeros }
-
--- the one answer that fulfils `Compiles` (Promises.antt), as it can be computed
-unfoldable pub compiled : List ℕ → Compiled
-compiled text = answered (judge text)

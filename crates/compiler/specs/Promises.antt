@@ -3,7 +3,7 @@
 use mathlib.Core.Path.{_≡_}
 use mathlib.Core.List.{List}
 use Prim.Native.Nat.{ℕ}
-use Rattle.compiler.specs.Compiling.{answer, Compiles, compiled}
+use Rattle.compiler.specs.Compiling.{answer, Compiles}
 use Rattle.compiler.specs.declared.replies.Reply.{Reply}
 use Rattle.compiler.specs.declared.replies.Compiled.{Compiled}
 
@@ -14,7 +14,3 @@ Answer-injective = (a b : Reply) → answer a ≡ answer b → a ≡ b
 -- exactly one outcome for each text
 abbrev pub Compile-determined : Type 0
 Compile-determined = (text : List ℕ) (r r′ : Compiled) → Compiles text r → Compiles text r′ → r ≡ r′
-
--- it is the one that can be computed
-abbrev pub Compiled-compiles : Type 0
-Compiled-compiles = (text : List ℕ) → Compiles text (compiled text)

@@ -1,12 +1,12 @@
 -- Document 01, "Sample readings": "P marks those proved, all held by a single list of cases with a single claim about it".
 use mathlib.Core.Path.{_≡_}
-use mathlib.Core.List.{List, [], _∷_, map}
+use mathlib.Core.List.{List, [], _∷_, map, List·Memᴰ}
 use Prim.Native.Nat.{ℕ, _+_, _-_, _^_}
 use Prim.Native.Char.{code}
 use Prim.Native.String.{String}
 use Prim.Native.String as string
 use lib.ListN.{take}
-use Rattle.compiler.specs.Compiling.{Answer, answer, compiled}
+use Rattle.compiler.specs.Compiling.{Answer, answer, Compiles}
 use Rattle.compiler.specs.Compiling.Answer.{accepted, refused}
 use Rattle.compiler.specs.declared.replies.Compiled.{Compiled}
 
@@ -66,6 +66,6 @@ samples =
     ∷ no-path "path a end end" 4 11
     ∷ []
 
--- the single claim: each text of the list reads as it says
+-- the single claim: whatever fulfils the contract of `compile` on a text of the list shows what the list says
 abbrev pub Samples-read-so : Type 0
-Samples-read-so = map (λ (s : Sample). shown (compiled (bytes (s .text)))) samples ≡ map (λ (s : Sample). s .reads) samples
+Samples-read-so = (s : Sample) → List·Memᴰ s samples → (r : Compiled) → Compiles (bytes (s .text)) r → shown r ≡ s .reads

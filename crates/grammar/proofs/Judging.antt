@@ -2,6 +2,7 @@
 -- it judges exactly; and as it says one thing, no two are so.
 use mathlib.Core.Path.{_≡_, refl, _∙_, subst}
 use mathlib.Core.List.{List, [], _∷_, append-nil}
+use mathlib.Core.Logic.{_⊎_, inl, inr}
 use mathlib.Core.Option.{some}
 use Prim.Native.Nat.{ℕ, _≤_, _<_}
 use native.Mathlib.Omega.{arith}
@@ -16,7 +17,7 @@ use Rattle.grammar.specs.Refusals.Refused.{too-long, at-a-token, stops-s
 use Rattle.grammar.specs.Machine.{State, Verdict, atEnd, judgeItem, judgeFrom, judge}
 use Rattle.grammar.specs.Machine.State.{outside, wanting, having, finished}
 use Rattle.grammar.specs.Machine.Verdict.{accepted, refused}
-use Rattle.grammar.specs.Promises.{Verdicts-exclusive, Judged-exactly}
+use Rattle.grammar.specs.Promises.{One-verdict, Judged-exactly}
 use Rattle.grammar.proofs.Runs.{reached}
 use Rattle.grammar.proofs.Derived.{whole-runs}
 use Rattle.grammar.proofs.Completed.{finished-whole}
@@ -85,9 +86,15 @@ judged-exactly text =
       refuses = λ n k. (λ q. subst (Outcome text) q (judge-sound text), says-refused text);
     }
 
-pub verdicts-exclusive : Verdicts-exclusive
-verdicts-exclusive text =
+-- a verdict is one of two
+either-verdict : (text : List ℕ) (v : Verdict) → Outcome text v → ((e : Expr) × Accepted text e) ⊎ ((n k : ℕ) × Refused text n k)
+either-verdict text (accepted e) is = inl (e, is)
+either-verdict text (refused n k) is = inr (n, k, is)
+
+pub one-verdict : One-verdict
+one-verdict text =
     record {
+      one-or-other = either-verdict text (judge text) (judge-sound text);
       one-expression = λ a b x y. let said = says-accepted text a x in let said′ = says-accepted text b y in cc;
       one-refusal = λ n k m l x y. let said = says-refused text x in let said′ = says-refused text y in (cc, cc);
       not-both = λ e n k x y.

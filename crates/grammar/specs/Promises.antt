@@ -3,7 +3,7 @@
 use mathlib.Core.Path.{_≡_}
 use mathlib.Core.Bool.{true}
 use mathlib.Core.List.{List, [], _∷_, List·Memᴰ}
-use mathlib.Core.Logic.{_↔_}
+use mathlib.Core.Logic.{_↔_, _⊎_}
 use Prim.Native.Nat.{ℕ}
 use Rattle.meaning.specs.Names.{Name}
 use Rattle.meaning.specs.Words.{Expr, names}
@@ -14,7 +14,8 @@ use Rattle.grammar.specs.Refusals.{Accepted, Refused, namesIn}
 use Rattle.grammar.specs.Machine.{judge}
 use Rattle.grammar.specs.Machine.Verdict.{accepted, refused}
 
--- the grammar gives a list of symbols one expression at most: not only up to regrouping, but exactly
+-- the grammar gives a list of symbols one expression at most: sequences and sums are grouped from the left. (Any other grouping has
+-- the same words: meaning's `Rewriting-keeps-words` regroups freely.)
 abbrev pub One-expression : Type 0
 One-expression = (w : List Symbol) (a b : Expr) → Whole w a → Whole w b → a ≡ b
 
@@ -22,14 +23,15 @@ One-expression = (w : List Symbol) (a b : Expr) → Whole w a → Whole w b → 
 abbrev pub Names-as-written : Type 0
 Names-as-written = (w : List Symbol) (e : Expr) → Whole w e → names e ≡ namesIn w
 
--- an accepted text has one expression, a refused one one number and place, and no text is both
-pub record Exclusive (text : List ℕ) : Type 0 where
+-- every text is accepted or refused, and not both; an accepted one has one expression, a refused one one number and place
+pub record Exactly-one (text : List ℕ) : Type 0 where
+  pub one-or-other : ((e : Expr) × Accepted text e) ⊎ ((n k : ℕ) × Refused text n k)
   pub one-expression : (a b : Expr) → Accepted text a → Accepted text b → a ≡ b
   pub one-refusal : (n k m l : ℕ) → Refused text n k → Refused text m l → (n ≡ m) × (k ≡ l)
   pub not-both : (e : Expr) (n k : ℕ) → Accepted text e → ¬ Refused text n k
 
-abbrev pub Verdicts-exclusive : Type 0
-Verdicts-exclusive = (text : List ℕ) → Exclusive text
+abbrev pub One-verdict : Type 0
+One-verdict = (text : List ℕ) → Exactly-one text
 
 -- the machine accepts exactly the accepted texts, with their expressions, and refuses exactly as the table of refusals says
 pub record Judged (text : List ℕ) : Type 0 where

@@ -13,7 +13,7 @@ pub data Symbol : Type 0 where
   semicolon plus asterisk opening closing path end : Symbol
   name : Name → Symbol
 
--- what stands at a place: a symbol, "a bad byte, or digit at a token's start", or a "name of 17 or more bytes"
+-- what stands at a place: a symbol, a "bad byte, or digit at a token's start", or a "name of 17 or more bytes"
 pub data Lexeme : Type 0 where
   symbol : Symbol → Lexeme
   bad long : Lexeme
