@@ -1,6 +1,6 @@
 -- The token behind an expression in parentheses: a `)`, or a refusal.
 use mathlib.Core.Path.{_≡_, refl, sym, ap, _∙_}
-use mathlib.Core.Bool.{Bool, true, false, true≢false}
+use mathlib.Core.Bool.{false}
 use mathlib.Core.List.{List}
 use Prim.Native.Nat.{ℕ, _-_, _≤_, _<_}
 use native.Mathlib.Omega.{arith}
@@ -9,10 +9,9 @@ use lib.ListN.{length, drop}
 use Rattle.text.specs.Tokens.{nextToken}
 use Rattle.text.specs.declared.tokens.Token.the-variants.{Close}
 use Rattle.text.specs.declared.tokens.Read.{Read}
-use Rattle.text.proofs.Reading.{token-moves-on}
-use Rattle.compiler.specs.Reading.{behind, closed, closeBy, halted, isClose, isTextEnd, unfit}
+use Rattle.compiler.specs.Reading.{behind, closed, halted, isClose, isTextEnd, unfit}
 use Rattle.compiler.specs.declared.readers.Reading.{Reading}
-use Rattle.compiler.proofs.Endings.{behind-fits, behind-starts}
+use Rattle.compiler.proofs.Endings.{behind-fits, behind-starts, moves}
 use Rattle.compiler.proofs.Tails.{slice, slice-drops}
 
 -- u is the token behind what was read
@@ -37,6 +36,5 @@ module _ (s : List ℕ) (e : Reading) (u : Read) (told : u ≡ nextToken (slice 
 
   -- any token but the end of the text uses up some of it
   pub moves-behind : isTextEnd (u .token) ≡ false → 0 < u .used
-  moves-behind n =
-      let at = drop (length s - e .left) s in
-      rw is-behind (omega (arith, token-moves-on at (λ z. true≢false (sym (ap isTextEnd z) ∙ ap (λ (x : Read). isTextEnd (x .token)) (sym is-behind) ∙ n))))
+  moves-behind other =
+      rw is-behind (omega (arith, moves (drop (length s - e .left) s) (u .token) (ap (λ (x : Read). x .token) (sym is-behind)) other))

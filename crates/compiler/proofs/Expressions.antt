@@ -14,30 +14,26 @@ use Rattle.text.specs.Tokens.{nextToken}
 use Rattle.text.specs.declared.tokens.Token.the-variants.{Plus}
 use Rattle.text.specs.declared.tokens.Read.{Read}
 use Rattle.grammar.specs.Symbols.Symbol.{plus}
-use Rattle.grammar.specs.Machine.{Left, stepTo, haveStep, depthOf, limitAt, namesOn, stepped, limited, upward, thenAfter, orAfter, sumTo}
+use Rattle.grammar.specs.Machine.{Left, stepTo, haveStep, depthOf, limitAt, namesOn, stepped, limited, upward, thenAfter, sumTo}
 use Rattle.grammar.specs.Machine.State.{wanting, having}
 use Rattle.parts.specs.Progress.{Fine, partOf}
 use Rattle.compiler.specs.Reading.{Tail, Goes, Stops, SequenceRead, ExpressionRead, Part-read, Either-way, Stands, namesPast, rowsPast, onSum, noneBefore, orRead, verdict, behind, endsSequence, endsExpression}
 use Rattle.compiler.specs.declared.readers.Before.{Before}
 use Rattle.compiler.specs.declared.readers.Reading.{Reading}
 use Rattle.compiler.proofs.Tails.{slice, slice-drops, tail-drop}
-use Rattle.compiler.proofs.Verdicts.{is-plus, verdict-symbol}
+use Rattle.compiler.proofs.Verdicts.{is-plus}
 use Rattle.compiler.proofs.Closing.{is-behind}
-use Rattle.compiler.proofs.Endings.{behind-part, ending, ending-size, ending-tail, behind-fits}
+use Rattle.compiler.proofs.Endings.{behind-part, behind-fits, behind-symbol}
 use Rattle.compiler.proofs.Joining.{stands-table, names-or, or-joined, or-place}
 
 -- a `+` behind the reading e of s takes the machine to another sequence
 over-plus : (s : List ℕ) (e : Reading) → e .left ≤ length s → behind s e .token ≡ Plus → (text : List ℕ) → Tail text s
     → (l : Left) (f : Expr) (ks : List Left) (ns : List Name) → verdict text (e .left) (having l f ks) ns
     ≡ verdict text (length s - (length s - e .left + behind s e .used)) (wanting (upward l f) ks) ns
-unfolding ending stepTo haveStep depthOf limitAt namesOn stepped limited
+unfolding stepTo haveStep depthOf limitAt namesOn stepped limited
 over-plus s e w is text h l f ks ns =
-    let at = ending s e w in
-    let size = ending-size s e w in
-    let rest : length at - behind s e .used ≡ length s - (length s - e .left + behind s e .used) = omega (arith, size, behind-fits s e w) in
-    ap (λ (j : ℕ). verdict text j (having l f ks) ns) (sym size)
-    ∙ verdict-symbol text at (ending-tail s e w text h) Plus plus is (is-plus _) (having l f ks) ns
-    ∙ ap (λ (j : ℕ). verdict text j (wanting (upward l f) ks) ns) rest
+    let rest : e .left - behind s e .used ≡ length s - (length s - e .left + behind s e .used) = omega arith in
+    behind-symbol s e w text h (having l f ks) ns Plus plus is (is-plus _) ∙ ap (λ (j : ℕ). verdict text j (wanting (upward l f) ks) ns) rest
 
 -- `none-yet` is what the program passes on where no sequence was read yet
 module _ (s : List ℕ) (d : ℕ) (b none-yet : Before) (q : Reading) (is-none : none-yet ≡ noneBefore (b .part .table)) (told : SequenceRead s d none-yet q) where

@@ -1,17 +1,16 @@
 -- Each way through the reader of sequences, as its contract has it: the factor is refused, the sequence ends behind it, or goes on with a
 -- `;` or with another factor.
 use mathlib.Core.Path.{_≡_, refl, sym, ap, ap₂, subst, _∙_}
-use mathlib.Core.Bool.{Bool, true, false, true≢false}
-use mathlib.Core.List.{List, [], _∷_, _++_}
-use mathlib.Core.Logic.{_⊎_, inl, inr}
-use mathlib.Core.Option.{Option, some, none}
+use mathlib.Core.Bool.{true}
+use mathlib.Core.List.{List, _++_}
+use mathlib.Core.Logic.{inl, inr}
+use mathlib.Core.Option.{Option, some}
 use Prim.Native.Nat.{ℕ, _+_, _-_, _≤_}
 use native.Mathlib.Omega.{arith}
-use lib.ListN.{length, take, drop, length-drop}
+use lib.ListN.{length, drop, length-drop}
 use Rattle.meaning.specs.Names.{Name}
 use Rattle.meaning.specs.Words.{Expr, names}
 use Rattle.text.specs.Tokens.{nextToken}
-use Rattle.text.specs.declared.tokens.Token.{Token}
 use Rattle.text.specs.declared.tokens.Token.the-variants.{Semicolon, Open, Name as Named}
 use Rattle.text.specs.declared.tokens.Read.{Read}
 use Rattle.grammar.specs.Symbols.Symbol.{semicolon, opening, name}
@@ -22,10 +21,10 @@ use Rattle.compiler.specs.Reading.{Tail, Goes, Stops, FactorRead, Sequen
 use Rattle.compiler.specs.declared.readers.Before.{Before}
 use Rattle.compiler.specs.declared.readers.Reading.{Reading}
 use Rattle.compiler.proofs.Tails.{slice, slice-drops, tail-drop}
-use Rattle.compiler.proofs.Verdicts.{is-semicolon, is-opening, is-name, verdict-symbol}
+use Rattle.compiler.proofs.Verdicts.{is-semicolon, is-opening, is-name}
 use Rattle.compiler.proofs.Joining.{stands-table, names-then, then-joined, then-place}
 use Rattle.compiler.proofs.Closing.{is-behind}
-use Rattle.compiler.proofs.Endings.{behind-part, ending, ending-size, ending-tail, behind-fits}
+use Rattle.compiler.proofs.Endings.{behind-part, behind-fits, behind-symbol}
 
 -- the machine goes on behind the reading q of s, at its byte j, from a factor to where the next has to come
 abbrev pub Goes-on : List ℕ → Reading → ℕ → Type 0
@@ -34,44 +33,31 @@ Goes-on s q j =
     → verdict text (q .left) (having l f ks) ns ≡ verdict text (length s - j) (wanting (onward l f) ks) ns
 
 module _ (s : List ℕ) (q : Reading) (w : q .left ≤ length s) where
-  at : List ℕ
-  at = ending s q w
-
   -- over a `;`
   pub over-semicolon : behind s q .token ≡ Semicolon → Goes-on s q (length s - q .left + behind s q .used)
-  unfolding at ending stepTo haveStep depthOf limitAt namesOn stepped limited
+  unfolding stepTo haveStep depthOf limitAt namesOn stepped limited
   over-semicolon e text h l f ks ns =
-      let size = ending-size s q w in
-      let rest : length at - behind s q .used ≡ length s - (length s - q .left + behind s q .used) = omega (arith, size, behind-fits s q w) in
-      ap (λ (j : ℕ). verdict text j (having l f ks) ns) (sym size)
-      ∙ verdict-symbol text at (ending-tail s q w text h) Semicolon semicolon e (is-semicolon _) (having l f ks) ns
+      let rest : q .left - behind s q .used ≡ length s - (length s - q .left + behind s q .used) = omega arith in
+      behind-symbol s q w text h (having l f ks) ns Semicolon semicolon e (is-semicolon _)
       ∙ ap (λ (j : ℕ). verdict text j (wanting (onward l f) ks) ns) rest
 
   -- the next factor follows at once
-  same-here : (text : List ℕ) → Tail text s → (l : Left) (f : Expr) (ks : List Left) (ns : List Name)
-      → verdict text (length at) (having l f ks) ns ≡ verdict text (length at) (wanting (onward l f) ks) ns
-      → verdict text (q .left) (having l f ks) ns ≡ verdict text (length s - (length s - q .left)) (wanting (onward l f) ks) ns
-  unfolding at
-  same-here text h l f ks ns e =
-      let size = ending-size s q w in
-      let back : length at ≡ length s - (length s - q .left) = omega (arith, size) in
-      ap (λ (j : ℕ). verdict text j (having l f ks) ns) (sym size) ∙ e ∙ ap (λ (j : ℕ). verdict text j (wanting (onward l f) ks) ns) back
+  back : q .left ≡ length s - (length s - q .left)
+  back = omega arith
 
   pub before-name : (m : ℕ) → behind s q .token ≡ Named m → Goes-on s q (length s - q .left)
-  unfolding at ending stepTo haveStep wantStep depthOf limitAt namesOn stepped
+  unfolding stepTo haveStep wantStep depthOf limitAt namesOn stepped
   before-name m e text h l f ks ns =
-      let tail = ending-tail s q w text h in
-      same-here text h l f ks ns
-      (verdict-symbol text at tail (Named m) (name _) e (is-name m _) (having l f ks) ns
-      ∙ sym (verdict-symbol text at tail (Named m) (name _) e (is-name m _) (wanting (onward l f) ks) ns))
+      behind-symbol s q w text h (having l f ks) ns (Named m) (name _) e (is-name m _)
+      ∙ sym (behind-symbol s q w text h (wanting (onward l f) ks) ns (Named m) (name _) e (is-name m _))
+      ∙ ap (λ (j : ℕ). verdict text j (wanting (onward l f) ks) ns) back
 
   pub before-open : behind s q .token ≡ Open → Goes-on s q (length s - q .left)
-  unfolding at ending stepTo haveStep wantStep depthOf limitAt namesOn stepped
+  unfolding stepTo haveStep wantStep depthOf limitAt namesOn stepped
   before-open e text h l f ks ns =
-      let tail = ending-tail s q w text h in
-      same-here text h l f ks ns
-      (verdict-symbol text at tail Open opening e (is-opening _) (having l f ks) ns
-      ∙ sym (verdict-symbol text at tail Open opening e (is-opening _) (wanting (onward l f) ks) ns))
+      behind-symbol s q w text h (having l f ks) ns Open opening e (is-opening _)
+      ∙ sym (behind-symbol s q w text h (wanting (onward l f) ks) ns Open opening e (is-opening _))
+      ∙ ap (λ (j : ℕ). verdict text j (wanting (onward l f) ks) ns) back
 
 module _ (s : List ℕ) (d : ℕ) (b : Before) (f : Reading) (given : FactorRead s d (b .part .table) f) where
   pub sequence-refused : (f .number ≡ 0 → ⊥) → SequenceRead s d b f

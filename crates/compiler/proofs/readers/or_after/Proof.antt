@@ -2,9 +2,6 @@ use borrow.Author.Needs.{needs}
 use Rattle.compiler.specs.Reading.{orRead}
 use Rattle.compiler.proofs.readers.or_after.Statement.{statement}
 use Rattle.compiler.proofs.readers.or_after.Tie as tie
-use Rattle.compiler.proofs.readers.or_after.Reads as reads
-use Rattle.compiler.proofs.readers.or_after.Lts as lts
-use Rattle.parts.proofs.joining.either_part.Reads as either-part-reads
 
 -- src/readers.rt:113:13
 either-part-requires : tie.Need-either-part-requires

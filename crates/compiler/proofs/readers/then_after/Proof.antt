@@ -2,9 +2,6 @@ use borrow.Author.Needs.{needs}
 use Rattle.compiler.specs.Reading.{thenRead}
 use Rattle.compiler.proofs.readers.then_after.Statement.{statement}
 use Rattle.compiler.proofs.readers.then_after.Tie as tie
-use Rattle.compiler.proofs.readers.then_after.Reads as reads
-use Rattle.compiler.proofs.readers.then_after.Lts as lts
-use Rattle.parts.proofs.joining.then_part.Reads as then-part-reads
 
 -- src/readers.rt:96:13
 then-part-requires : tie.Need-then-part-requires
