@@ -1,6 +1,6 @@
 -- The token behind an expression in parentheses: a `)`, or a refusal.
 use mathlib.Core.Path.{_≡_, refl, ap, _∙_}
-use mathlib.Core.Bool.{true, false}
+use mathlib.Core.Bool.{false}
 use mathlib.Core.List.{List}
 use Prim.Native.Nat.{ℕ, _-_, _≤_}
 use borrow.Author.Tests.{eq-eqb}
@@ -8,7 +8,7 @@ use lib.ListN.{length}
 use Rattle.text.specs.Tokens.{nextToken}
 use Rattle.text.specs.declared.tokens.Token.the-variants.{Close}
 use Rattle.text.specs.declared.tokens.Read.{Read}
-use Rattle.compiler.specs.Reading.{behind, closed, closeBy, halted, isClose, unfit}
+use Rattle.compiler.specs.Reading.{behind, closed, halted, isClose, unfit}
 use Rattle.compiler.specs.declared.readers.Reading.{Reading}
 use Rattle.compiler.proofs.Endings.{behind-fits, behind-starts}
 use Rattle.compiler.proofs.Tails.{slice, slice-drops}

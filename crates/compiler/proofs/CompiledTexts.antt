@@ -1,60 +1,43 @@
 -- What the machine's verdict on a text comes to fulfils the contract of `compile`, and nothing else does.
 use mathlib.Core.Path.{_≡_, refl, sym, ap, ap₂, subst, _∙_}
 use mathlib.Core.List.{List}
-use Prim.Native.Nat.{ℕ, _≤_}
+use Prim.Native.Nat.{ℕ}
 use native.Mathlib.Omega.{arith}
 use lib.ListN.{length}
 use Rattle.meaning.specs.Names.{Name}
 use Rattle.meaning.specs.Words.{Expr, names}
 use Rattle.meaning.specs.Operations.{distinct}
 use Rattle.meaning.proofs.Numbering.{size-names}
-use Rattle.grammar.specs.Refusals.{Accepted, Refused}
+use Rattle.grammar.specs.Refusals.{Accepted}
 use Rattle.grammar.specs.Machine.{Verdict, judge}
 use Rattle.grammar.specs.Machine.Verdict.{accepted as judged, refused as declined}
 use Rattle.grammar.proofs.Judging.{judged-exactly, one-verdict}
 use Rattle.grammar.proofs.Naming.{names-as-written, names-well-formed}
-use Rattle.table.specs.Cells.{zeros}
 use Rattle.table.specs.Rules.{tableOf}
 use Rattle.table.specs.Promises.{Limited}
 use Rattle.table.specs.declared.cells.Table.{Table}
 use Rattle.table.proofs.TableSound.{rules-table-sound}
 use Rattle.table.proofs.TablePermits.{rules-table-permits}
-use Rattle.compiler.specs.Compiling.{Answer, answer, Table-of-text, Compiles}
-use Rattle.compiler.specs.Computed.{answered, compiled, Compiled-compiles}
+use Rattle.compiler.specs.Compiling.{Table-of-text, Compiles}
 use Rattle.compiler.specs.Compiling.Answer.{accepted, refused}
+use Rattle.compiler.specs.Computed.{answered, compiled, Compiled-compiles}
 use Rattle.compiler.specs.Promises.{Answer-injective, Compile-determined}
-use Rattle.compiler.specs.declared.replies.Refusal.{Refusal}
 use Rattle.compiler.specs.declared.replies.Reply.{Reply}
 use Rattle.compiler.specs.declared.replies.Reply.the-variants.{Accepted as Accepts, Refused as Refuses}
 use Rattle.compiler.specs.declared.replies.Compiled.{Compiled}
 
--- what tells answers apart: the case, the number and the place
-abbrev case-of : Answer → ℕ
-case-of accepted = 0
-case-of (refused n k) = 1
-
-abbrev number-in : Answer → ℕ
-number-in accepted = 0
-number-in (refused n k) = n
-
-abbrev place-in : Answer → ℕ
-place-in accepted = 0
-place-in (refused n k) = k
+-- no answer is both
+not-both : {X : Type 0} (n k : ℕ) → accepted ≡ refused n k → X
+not-both n k e = let z : _≡_ {A = ℕ} 0 1 = cc in absurd (omega arith)
 
 pub answer-injective : Answer-injective
 answer-injective Accepts Accepts e = refl
-answer-injective Accepts (Refuses r) e = let never = ap case-of e in absurd (omega arith)
-answer-injective (Refuses r) Accepts e = let never = ap case-of e in absurd (omega arith)
+answer-injective Accepts (Refuses r) e = not-both _ _ e
+answer-injective (Refuses r) Accepts e = not-both _ _ (sym e)
 answer-injective (Refuses a) (Refuses b) e =
-    ap₂ (λ (n k : ℕ). Refuses (record { number = n; place = k })) (ap number-in e) (ap place-in e)
-
--- the same of verdicts
-abbrev verdict-case : Verdict → ℕ
-verdict-case (judged e) = 0
-verdict-case (declined n k) = 1
-
-not-both : (v : Verdict) (e : Expr) (n k : ℕ) → v ≡ judged e → v ≡ declined n k → ⊥
-not-both v e n k a b = let never = ap verdict-case (sym a ∙ b) in omega arith
+    let number : a .number ≡ b .number = cc in
+    let place : a .place ≡ b .place = cc in
+    ap₂ (λ (n k : ℕ). Refuses (record { number = n; place = k })) number place
 
 -- an accepted text's expression is within the limits of a table
 text-limited : (text : List ℕ) (e : Expr) → Accepted text e → Limited e
@@ -75,30 +58,23 @@ table-of-text text e a =
 module _ (text : List ℕ) where
   verdict-compiles : (v : Verdict) → judge text ≡ v → Compiles text (answered v)
   verdict-compiles (judged e) is =
+      let fits = judged-exactly text .accepts e .0 is in
       record {
-        accepts = (λ _. (e, judged-exactly text .accepts e .0 is), λ _. refl);
-        refuses = λ n k. (
-          λ z. let never = ap case-of z in absurd (omega arith),
-          λ h. absurd (not-both (judge text) e n k is (judged-exactly text .refuses n k .1 h)),
-        );
+        accepts = (λ _. (e, fits), λ _. refl);
+        refuses = λ n k. (not-both n k, λ h. absurd (one-verdict text .not-both e n k fits h));
         its-table = λ a h.
-            let same = one-verdict text .one-expression e a (judged-exactly text .accepts e .0 is) h in
-            subst (λ (x : Expr). Table-of-text a (tableOf x)) (sym same) (table-of-text text a h);
-        no-table = λ n k h. absurd (not-both (judge text) e n k is (judged-exactly text .refuses n k .1 h));
+            subst (λ (x : Expr). Table-of-text a (tableOf x)) (one-verdict text .one-expression a e h fits) (table-of-text text a h);
+        no-table = λ n k h. absurd (one-verdict text .not-both e n k fits h);
       }
   verdict-compiles (declined n k) is =
+      let bad = judged-exactly text .refuses n k .0 is in
       record {
-        accepts = (
-          λ z. let never = ap case-of z in absurd (omega arith),
-          λ h. absurd (not-both (judge text) (h .0) n k (judged-exactly text .accepts (h .0) .1 (h .1)) is),
-        );
+        accepts = (λ z. not-both n k (sym z), λ (e, h). absurd (one-verdict text .not-both e n k h bad));
         refuses = λ m l. (
-          λ z. judged-exactly text .refuses m l .0 (is ∙ ap₂ declined (ap number-in z) (ap place-in z)),
-          λ h.
-              let same = one-verdict text .one-refusal n k m l (judged-exactly text .refuses n k .0 is) h in
-              ap₂ refused (same .0) (same .1),
+          λ z. judged-exactly text .refuses m l .0 (cc),
+          λ h. let same = one-verdict text .one-refusal n k m l bad h in ap₂ refused (same .0) (same .1),
         );
-        its-table = λ a h. absurd (not-both (judge text) a n k (judged-exactly text .accepts a .1 h) is);
+        its-table = λ e h. absurd (one-verdict text .not-both e n k h bad);
         no-table = λ m l h. refl;
       }
 

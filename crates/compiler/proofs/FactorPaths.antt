@@ -5,11 +5,10 @@ use mathlib.Core.List.{List}
 use Prim.Native.Nat.{ℕ, _+_, _-_, _≤_, _<_}
 use native.Mathlib.Omega.{arith}
 use lib.ListN.{length, take, drop}
-use Rattle.meaning.specs.Names.{Name}
 use Rattle.text.specs.Tokens.{nextToken}
 use Rattle.text.specs.declared.tokens.Token.the-variants.{Open, Name as Named}
 use Rattle.text.specs.declared.tokens.Read.{Read}
-use Rattle.text.proofs.Reading.{start-within-used, used-within-text, name-reaches, token-moves-on}
+use Rattle.text.proofs.Reading.{start-within-used, used-within-text, name-reaches}
 use Rattle.table.specs.declared.cells.Table.{Table}
 use Rattle.parts.specs.Parts.{placed}
 use Rattle.parts.specs.declared.placing.Placed.{Placed}
@@ -17,8 +16,9 @@ use Rattle.compiler.specs.Reading.{Starry, FactorRead, ExpressionRead, e
 use Rattle.compiler.specs.declared.readers.Reading.{Reading}
 use Rattle.compiler.proofs.Arms.{begins}
 use Rattle.compiler.proofs.Tails.{slice, slice-size}
+use Rattle.compiler.proofs.Endings.{moves}
 use Rattle.compiler.proofs.Factors.{nameAt, factor-other, factor-deep, factor-limit, factor-name}
-use Rattle.compiler.proofs.Parentheses.{factor-open, open-moves, closed-left}
+use Rattle.compiler.proofs.Parentheses.{factor-open, closed-left}
 
 module _ (s : List ℕ) (u : Read) (told : u ≡ nextToken s) where
   pub start-fits : u .start ≤ length s
@@ -34,7 +34,7 @@ module _ (s : List ℕ) (u : Read) (told : u ≡ nextToken s) where
 
   pub open-used : u .token ≡ Open → 0 < u .used
   open-used e =
-      let less = token-moves-on s (open-moves s (ap (λ (v : Read). v .token) (sym told) ∙ e)) in
+      let less = moves s Open (ap (λ (v : Read). v .token) (sym told) ∙ e) refl in
       rw told (omega (arith, less))
 
   module _ (d : ℕ) (t : Table) (r : Reading) where

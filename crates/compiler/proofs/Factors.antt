@@ -1,38 +1,35 @@
 -- Each way through the reader of factors, as its contract has it: a token that is no factor, a parenthesis too deep, a name that passes a
 -- limit, a name with its stars, and an expression in parentheses.
 use mathlib.Core.Path.{_≡_, refl, sym, ap, subst, _∙_}
-use mathlib.Core.Bool.{Bool, true, false, cond, true≢false}
+use mathlib.Core.Bool.{true, false, cond, true≢false}
 use mathlib.Core.List.{List, [], _∷_, _++_}
-use mathlib.Core.Logic.{_⊎_, inl, inr}
-use mathlib.Core.Option.{none}
-use Prim.Native.Nat.{ℕ, zero, suc, _+_, _-_, _≤_, _<_}
+use mathlib.Core.Logic.{inl, inr}
+use Prim.Native.Nat.{ℕ, zero, suc, _-_, _≤_, _<_}
 use native.Mathlib.Omega.{arith}
-use borrow.Author.Tests.{eq-eqb, ne-eqb, eqb-true, le-leb, lt-leb}
-use lib.Dec.{eqb, leb}
-use lib.ListN.{length, take, drop, length-drop, length-take}
+use borrow.Author.Tests.{le-leb}
+use lib.Dec.{leb}
+use lib.ListN.{length, take, drop, length-take}
 use Rattle.meaning.specs.Names.{Name}
 use Rattle.meaning.specs.Words.{Expr, names}
 use Rattle.meaning.specs.Words.Expr.{name as nameOf}
 use Rattle.text.specs.Tokens.{nextToken}
 use Rattle.text.specs.declared.tokens.Token.{Token}
 use Rattle.text.specs.declared.tokens.Token.the-variants.{Semicolon, Plus, Star, Open, Close, Path, End, Name as Named, TextEnd, Bad, Long}
-use Rattle.text.specs.declared.tokens.Read.{Read}
-use Rattle.text.proofs.Reading.{Named as Named-read, start-within-used, used-within-text, name-reaches}
-use Rattle.grammar.specs.Symbols.Symbol.{opening, closing, name}
-use Rattle.grammar.specs.Machine.{Left, State, Verdict, stepTo, wantStep, haveStep, depthOf, limitAt, namesOn, stepped, limited, nothingLeft, sumTo}
+use Rattle.text.proofs.Reading.{Named as Named-read, used-within-text, name-reaches}
+use Rattle.grammar.specs.Symbols.Symbol.{opening, name}
+use Rattle.grammar.specs.Machine.{Left, Verdict, stepTo, wantStep, haveStep, depthOf, limitAt, namesOn, stepped, limited, nothingLeft}
 use Rattle.grammar.specs.Machine.State.{wanting, having}
 use Rattle.grammar.specs.Machine.Verdict.{refused}
 use Rattle.table.specs.declared.cells.Table.{Table}
-use Rattle.parts.specs.Parts.{placed, starred}
+use Rattle.parts.specs.Parts.{placed}
 use Rattle.parts.specs.Progress.{noted, Fine, partOf, starTimes}
 use Rattle.parts.specs.declared.placing.Placed.{Placed}
 use Rattle.parts.proofs.Laws.{part-stars, names-starred}
 use Rattle.parts.proofs.NameParts.{nameLimit, placed-number, placed-part, placed-fine}
-use Rattle.compiler.specs.Reading.{Tail, Goes, Stops, Starry, FactorRead, ExpressionRead, Part-read, verdict, behind, endsFactor, endsExpression, isClose, closed, closeBy, halted, unfit}
+use Rattle.compiler.specs.Reading.{Tail, Starry, FactorRead, verdict, endsExpression, isClose, halted, unfit}
 use Rattle.compiler.specs.declared.readers.Reading.{Reading}
 use Rattle.compiler.proofs.Arms.{begins}
-use Rattle.compiler.proofs.Tails.{slice, slice-drops, tail-left, tail-drop}
-use Rattle.compiler.proofs.Verdicts.{is-opening, is-closing, is-name, place, stuckAt, verdict-symbol, verdict-stuck}
+use Rattle.compiler.proofs.Verdicts.{is-opening, is-name, place, stuckAt, verdict-symbol, verdict-stuck}
 
 -- no token is refused by 0
 pub unfit-some : (T : Token) → unfit T ≡ 0 → ⊥
@@ -100,9 +97,6 @@ limited-goes zero k v h = refl
 limited-goes (suc n) k v h = absurd (omega arith)
 
 module _ (s : List ℕ) (d : ℕ) (t : Table) where
-  at-start : nextToken s .start ≤ length s
-  at-start = omega (arith, start-within-used s, used-within-text s)
-
   -- a token that begins no factor
   pub factor-other : (r : Reading) → begins (nextToken s .token) ≡ false
       → r ≡ halted (unfit (nextToken s .token)) (length s - nextToken s .start) t → FactorRead s d t r

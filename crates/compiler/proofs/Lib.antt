@@ -1,6 +1,7 @@
+-- What is proved of the readers of a text, lowest first.
 pub mod Tails
-pub mod Endings
 pub mod Verdicts
+pub mod Endings
 pub mod Stars
 pub mod Arms
 pub mod Starry

@@ -2,10 +2,10 @@
 -- and the `)` takes it out again.
 use mathlib.Core.Path.{_≡_, refl, sym, ap, subst, _∙_}
 use mathlib.Core.Bool.{Bool, true, false, cond, true≢false}
-use mathlib.Core.List.{List, [], _∷_, _++_}
-use mathlib.Core.Logic.{_⊎_, inl, inr}
+use mathlib.Core.List.{List, _∷_, _++_}
+use mathlib.Core.Logic.{inl, inr}
 use mathlib.Core.Option.{none}
-use Prim.Native.Nat.{ℕ, zero, suc, _+_, _-_, _≤_, _<_}
+use Prim.Native.Nat.{ℕ, _+_, _-_, _≤_, _<_}
 use native.Mathlib.Omega.{arith}
 use borrow.Author.Tests.{eq-eqb, ne-eqb, lt-leb}
 use lib.Dec.{eqb, leb}
@@ -16,19 +16,19 @@ use Rattle.text.specs.Tokens.{nextToken}
 use Rattle.text.specs.declared.tokens.Token.{Token}
 use Rattle.text.specs.declared.tokens.Token.the-variants.{Semicolon, Plus, Star, Open, Close, Path, End, Name as Named, TextEnd, Bad, Long}
 use Rattle.text.specs.declared.tokens.Read.{Read}
-use Rattle.text.proofs.Reading.{start-within-used, used-within-text, token-moves-on}
+use Rattle.text.proofs.Reading.{used-within-text}
 use Rattle.grammar.specs.Symbols.Symbol.{closing}
-use Rattle.grammar.specs.Machine.{Left, State, stepTo, haveStep, depthOf, limitAt, namesOn, stepped, limited, nothingLeft, sumTo}
+use Rattle.grammar.specs.Machine.{Left, stepTo, haveStep, depthOf, limitAt, namesOn, stepped, limited, nothingLeft, sumTo}
 use Rattle.grammar.specs.Machine.State.{wanting, having}
 use Rattle.grammar.specs.Machine.Verdict.{refused}
 use Rattle.table.specs.declared.cells.Table.{Table}
-use Rattle.parts.specs.Progress.{noted, Fine, partOf, starTimes}
+use Rattle.parts.specs.Progress.{Fine, partOf, starTimes}
 use Rattle.parts.proofs.Laws.{part-stars, names-starred}
 use Rattle.compiler.specs.Reading.{Tail, Goes, Stops, Starry, FactorRead, ExpressionRead, Part-read, verdict, behind, endsFactor, endsExpression, isClose, closed, halted, Either-way, unfit}
 use Rattle.compiler.specs.declared.readers.Reading.{Reading}
 use Rattle.compiler.proofs.Tails.{slice, slice-drops, tail-drop}
-use Rattle.compiler.proofs.Verdicts.{is-closing, place, verdict-symbol, verdict-stuck}
-use Rattle.compiler.proofs.Endings.{behind-part, ending, ending-size, ending-tail}
+use Rattle.compiler.proofs.Verdicts.{is-closing, place}
+use Rattle.compiler.proofs.Endings.{behind-part, behind-symbol, behind-stuck, moves}
 use Rattle.compiler.proofs.Factors.{opened, limited-goes, unfit-some, unclosed-stuck}
 
 -- only `)` closes
@@ -44,10 +44,6 @@ is-closed (Named n) h = absurd (true≢false (sym h))
 is-closed TextEnd h = absurd (true≢false (sym h))
 is-closed Bad h = absurd (true≢false (sym h))
 is-closed Long h = absurd (true≢false (sym h))
-
--- a `(` does not end the text
-pub open-moves : (s : List ℕ) → nextToken s .token ≡ Open → nextToken s .token ≡ TextEnd → ⊥
-open-moves s e w = let z : _≡_ {A = ℕ} 0 1 = cc in omega arith
 
 -- closing reads no byte again
 pub closed-left : (s : List ℕ) (e : Reading) → closed s e .left ≤ e .left
@@ -76,7 +72,7 @@ module _ (s : List ℕ) (d : ℕ) (t : Table) (is-open : nextToken s .token ≡ 
   within-all = omega (arith, inner .within, size-inside)
 
   less : nextToken s .start < nextToken s .used
-  less = token-moves-on s (open-moves s is-open)
+  less = moves s Open is-open refl
 
   -- the machine steps inside
   enters : (text : List ℕ) (ks : List Left) → Tail text s → length ks ≡ d → (l : Left) (ns : List Name)
@@ -111,21 +107,15 @@ module _ (s : List ℕ) (d : ℕ) (t : Table) (is-open : nextToken s .token ≡ 
   -- the `)` takes the machine out
   leaves : (text : List ℕ) → Tail text s → behind s e .token ≡ Close → (l k : Left) (f : Expr) (ks : List Left) (ns : List Name)
       → verdict text (e .left) (having l f (k ∷ ks)) ns ≡ verdict text (e .left - behind s e .used) (having k (sumTo l f) ks) ns
-  unfolding stepTo haveStep depthOf limitAt namesOn stepped limited ending
-  leaves text h c l k f ks ns =
-      ap (λ (j : ℕ). verdict text j (having l f (k ∷ ks)) ns) (sym (ending-size s e within-all))
-      ∙ verdict-symbol text (ending s e within-all) (ending-tail s e within-all text h) Close closing c (is-closing _) (having l f (k ∷ ks)) ns
-      ∙ ap (λ (j : ℕ). verdict text (j - behind s e .used) (having k (sumTo l f) ks) ns) (ending-size s e within-all)
+  unfolding stepTo haveStep depthOf limitAt namesOn stepped limited
+  leaves text h c l k f ks ns = behind-symbol s e within-all text h (having l f (k ∷ ks)) ns Close closing c (is-closing _)
 
   -- and anything else is refused
   stuck : (text : List ℕ) → Tail text s → endsExpression (behind s e .token) ≡ true → isClose (behind s e .token) ≡ false
       → (l k : Left) (f : Expr) (ks : List Left) (ns : List Name)
       → verdict text (e .left) (having l f (k ∷ ks)) ns ≡ refused (unfit (behind s e .token)) (length text - (e .left - behind s e .start))
-  unfolding ending
   stuck text h ended c l k f ks ns =
-      ap (λ (j : ℕ). verdict text j (having l f (k ∷ ks)) ns) (sym (ending-size s e within-all))
-      ∙ verdict-stuck text (ending s e within-all) (ending-tail s e within-all text h) (having l f (k ∷ ks)) ns (unclosed-stuck l k f ks (behind s e .token) _ ended c)
-      ∙ ap (λ (j : ℕ). refused (unfit (behind s e .token)) (length text - (j - behind s e .start))) (ending-size s e within-all)
+      behind-stuck s e within-all text h (having l f (k ∷ ks)) ns (unclosed-stuck l k f ks (behind s e .token) _ ended c)
 
   -- what the reader of factors answers: the expression, closed, with its stars
   module _ (q r : Reading) (is-closed-of : q ≡ closed s e) (starry : Starry s q r) where

@@ -1,25 +1,25 @@
 -- A part with the stars behind it: refused as it was, plain, or starred.
 use mathlib.Core.Path.{_≡_, refl, sym, ap, subst, _∙_}
-use mathlib.Core.Bool.{Bool, true, false, not, cond, true≢false}
+use mathlib.Core.Bool.{true, false}
 use mathlib.Core.List.{List}
-use Prim.Native.Nat.{ℕ, _+_, _-_, _≤_, _<_}
+use Prim.Native.Nat.{ℕ, _+_, _-_, _≤_}
 use native.Mathlib.Omega.{arith}
+use borrow.Author.Tests.{not-true, not-false}
 use lib.Dec.{eqb}
-use lib.ListN.{length, drop, length-drop}
+use lib.ListN.{length, drop}
 use lib.Seq.{drop-drop}
 use Rattle.meaning.specs.Names.{Name}
 use Rattle.meaning.specs.Words.{Expr}
 use Rattle.text.specs.Tokens.{nextToken}
-use Rattle.text.specs.declared.tokens.Token.{Token}
 use Rattle.grammar.specs.Machine.{Left}
 use Rattle.grammar.specs.Machine.State.{having}
 use Rattle.parts.specs.Parts.{starred}
-use Rattle.parts.specs.declared.joining.Part.{Part}
 use Rattle.parts.specs.Progress.{starTimes}
-use Rattle.compiler.specs.Reading.{Goes, Tail, Starred, Starry, verdict, endsFactor, behind}
+use Rattle.compiler.specs.Reading.{Tail, Starred, Starry, verdict, endsFactor}
 use Rattle.compiler.specs.declared.readers.Reading.{Reading}
 use Rattle.compiler.specs.declared.readers.Starring.{Starring}
-use Rattle.compiler.proofs.Tails.{slice, slice-drops, tail-drop}
+use Rattle.compiler.proofs.Tails.{slice, slice-drops}
+use Rattle.compiler.proofs.Endings.{ending, ending-size, ending-tail}
 
 pub starry-refused : (s : List ℕ) (p : Reading) → (p .number ≡ 0 → ⊥) → Starry s p p
 starry-refused s p n =
@@ -33,41 +33,25 @@ starry-refused s p n =
       goes = λ z. absurd (n z);
     }
 
-not-false : (b : Bool) → true ≡ not b → b ≡ false
-not-false false e = refl
-not-false true e = absurd (true≢false e)
-
-not-true : (b : Bool) → false ≡ not b → b ≡ true
-not-true true e = refl
-not-true false e = absurd (true≢false (sym e))
-
 module _ (s : List ℕ) (p : Reading) (st : Starring) (z : p .number ≡ 0) (w : p .left ≤ length s) (g : Starred (slice s (length s - p .left)) st) where
-  at : List ℕ
-  at = drop (length s - p .left) s
-
-  size-at : length at ≡ p .left
-  unfolding at
-  size-at = omega (arith, length-drop (length s - p .left) s)
-
-  stars-at : Starred at st
-  unfolding at
+  stars-at : Starred (ending s p w) st
+  unfolding ending
   stars-at = subst (λ (v : List ℕ). Starred v st) (slice-drops s (length s - p .left)) g
 
   pub stars-fit : st .used ≤ p .left
-  stars-fit = omega (arith, stars-at .within, size-at)
+  stars-fit = omega (arith, stars-at .within, ending-size s p w)
 
   -- the stars take the machine on, from where p ends
   stars-go : (left : ℕ) → left ≡ p .left - st .used → (l : Left) (f : Expr) (d : ℕ) (ns : List Name) (text : List ℕ) (ks : List Left)
       → Tail text s → length ks ≡ d → verdict text (p .left) (having l f ks) ns ≡ verdict text left (having l (starTimes (stars-at .times) f) ks) ns
-  unfolding at
   stars-go left e l f d ns text ks h n =
-      ap (λ (k : ℕ). verdict text k (having l f ks) ns) (sym size-at)
-      ∙ stars-at .goes l f d ns text ks (tail-drop text s h (length s - p .left) (omega arith)) n
+      ap (λ (k : ℕ). verdict text k (having l f ks) ns) (sym (ending-size s p w))
+      ∙ stars-at .goes l f d ns text ks (ending-tail s p w text h) n
       ∙ ap (λ (k : ℕ). verdict text k (having l (starTimes (stars-at .times) f) ks) ns)
-      (ap (λ (k : ℕ). k - st .used) size-at ∙ sym e)
+      (ap (λ (k : ℕ). k - st .used) (ending-size s p w) ∙ sym e)
 
   stars-ended : (left : ℕ) → left ≡ p .left - st .used → endsFactor (nextToken (drop (length s - left) s) .token) ≡ true
-  unfolding at
+  unfolding ending
   stars-ended left e =
       let far : length s - p .left + st .used ≡ length s - left = omega (arith, stars-fit) in
       ap (λ (v : List ℕ). endsFactor (nextToken v .token))
@@ -82,7 +66,7 @@ module _ (s : List ℕ) (p : Reading) (st : Starring) (z : p .number ≡ 0) (w :
         refused-stays = λ _. refl;
         times = stars-at .times;
         number-stays = refl;
-        part-starred = λ _. rw (not-true (eqb (stars-at .times) 0) (sym e ∙ stars-at .any-if)) refl;
+        part-starred = λ _. rw (not-false (eqb (stars-at .times) 0) (sym (stars-at .any-if) ∙ e)) refl;
         ends = λ _. stars-ended (p .left) none;
         goes = λ _. stars-go (p .left) none;
       }
@@ -95,7 +79,7 @@ module _ (s : List ℕ) (p : Reading) (st : Starring) (z : p .number ≡ 0) (w :
         refused-stays = λ n. absurd (n z);
         times = stars-at .times;
         number-stays = ap (λ (q : Reading). q .number) is ∙ sym z;
-        part-starred = λ _. rw (is, not-false (eqb (stars-at .times) 0) (sym e ∙ stars-at .any-if)) refl;
+        part-starred = λ _. rw (is, not-true (eqb (stars-at .times) 0) (sym (stars-at .any-if) ∙ e)) refl;
         ends = λ _. stars-ended (r .left) left;
         goes = λ _. stars-go (r .left) left;
       }

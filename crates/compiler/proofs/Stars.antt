@@ -1,28 +1,26 @@
 -- Stars, read one after the other: each takes the machine from a factor to the same factor starred once more.
-use mathlib.Core.Path.{_≡_, refl, sym, ap, subst, _∙_}
+use mathlib.Core.Path.{_≡_, refl, sym, ap, _∙_}
 use mathlib.Core.Bool.{Bool, true, false, not, true≢false}
 use mathlib.Core.List.{List}
-use Prim.Native.Nat.{ℕ, zero, suc, _+_, _-_, _≤_, _<_}
+use Prim.Native.Nat.{ℕ, suc, _+_, _-_, _≤_, _<_}
 use native.Mathlib.Omega.{arith}
 use borrow.Author.Tests.{ne-eqb}
 use lib.Dec.{eqb}
 use lib.ListN.{length, drop, length-drop}
-use lib.Seq.{drop-drop}
 use Rattle.meaning.specs.Names.{Name}
 use Rattle.meaning.specs.Words.{Expr}
 use Rattle.text.specs.Tokens.{nextToken}
-use Rattle.text.specs.declared.tokens.Token.{Token}
-use Rattle.text.specs.declared.tokens.Token.the-variants.{Semicolon, Plus, Star, Open, Close, Path, End, Name as Named, TextEnd, Bad, Long}
+use Rattle.text.specs.declared.tokens.Token.the-variants.{Star}
 use Rattle.text.specs.declared.tokens.Read.{Read}
-use Rattle.text.proofs.Reading.{used-within-text, token-moves-on}
+use Rattle.text.proofs.Reading.{used-within-text}
 use Rattle.grammar.specs.Symbols.Symbol.{asterisk}
-use Rattle.grammar.specs.Machine.{Left, State, stepTo, haveStep, depthOf, limitAt, namesOn, stepped, limited}
+use Rattle.grammar.specs.Machine.{Left, stepTo, haveStep, depthOf, limitAt, namesOn, stepped, limited}
 use Rattle.grammar.specs.Machine.State.{having}
 use Rattle.parts.specs.Progress.{starTimes}
 use Rattle.compiler.specs.Reading.{Goes, Tail, Starred, verdict, endsFactor}
-use Rattle.compiler.specs.declared.readers.Starring.{Starring}
 use Rattle.compiler.proofs.Tails.{slice, slice-drops, tail-drop}
 use Rattle.compiler.proofs.Verdicts.{is-asterisk, verdict-symbol}
+use Rattle.compiler.proofs.Endings.{moves}
 
 -- some stars were read from the front of s
 pub record Stars-so-far (s : List ℕ) (any : Bool) (used : ℕ) : Type 0 where
@@ -51,10 +49,6 @@ star-goes : (text s : List ℕ) → Tail text s → nextToken s .token ≡ Star 
 unfolding stepTo haveStep depthOf limitAt namesOn stepped limited starTimes
 star-goes text s h e l f ks ns = verdict-symbol text s h Star asterisk e (is-asterisk _) (having l f ks) ns
 
--- a star cannot end the text
-star-moves : (s : List ℕ) → nextToken s .token ≡ Star → nextToken s .token ≡ TextEnd → ⊥
-star-moves s e w = let z : _≡_ {A = ℕ} 0 1 = cc in omega arith
-
 module _ (s : List ℕ) (any : Bool) (used : ℕ) (far : Stars-so-far s any used) where
   at : List ℕ
   at = drop used s
@@ -74,7 +68,7 @@ module _ (s : List ℕ) (any : Bool) (used : ℕ) (far : Stars-so-far s any used
     pub star-is-some : r .token ≡ Star → 0 < r .used
     star-is-some e =
         let star = ap (λ (q : Read). q .token) (sym next-at) ∙ e in
-        omega (arith, token-moves-on at (star-moves at star), ap (λ (q : Read). q .used) next-at)
+        omega (arith, moves at Star star refl, ap (λ (q : Read). q .used) next-at)
 
     pub star-more : r .token ≡ Star → Stars-so-far s true (used + r .used)
     unfolding starTimes at

@@ -30,11 +30,6 @@ module _ (text s : List ℕ) (h : Tail text s) where
       let far : length text - length s + j ≡ length text - (length s - j) = omega (arith, h .within) in
       ap (drop j) (h .same) ∙ drop-drop j (length text - length s) text ∙ ap (λ (n : ℕ). drop n text) far
 
-  pub tail-left : (left : ℕ) → left ≤ length s → drop (length s - left) s ≡ rest text left
-  tail-left left fits =
-      let back : length s - (length s - left) ≡ left = omega arith in
-      tail-behind (length s - left) (omega arith) ∙ ap (rest text) back
-
   pub tail-drop : (j : ℕ) → j ≤ length s → Tail text (drop j s)
   tail-drop j fits =
       let far = length-drop j s in

@@ -1,9 +1,9 @@
 -- One token of the machine, where a reader stands: what comes of a text with a tail left, by the tail's first token.
 use mathlib.Core.Path.{_≡_, refl, sym, ap, ap₂, _∙_}
-use mathlib.Core.Bool.{Bool, true, false}
-use mathlib.Core.List.{List, [], _∷_, _++_}
+use mathlib.Core.Bool.{Bool, true, false, false≢true}
+use mathlib.Core.List.{List, _∷_}
 use mathlib.Core.Option.{Option, some, none}
-use Prim.Native.Nat.{ℕ, _+_, _-_, _≤_}
+use Prim.Native.Nat.{ℕ, _+_, _-_}
 use native.Mathlib.Omega.{arith}
 use lib.ListN.{length, take, drop}
 use Rattle.meaning.specs.Names.{Name}
@@ -13,8 +13,8 @@ use Rattle.text.specs.declared.tokens.Token.the-variants.{Semicolon, Plus, Star
 use Rattle.text.proofs.Reading.{start-within-used, used-within-text, end-starts-last}
 use Rattle.grammar.specs.Symbols.{Symbol, Item, itemsBy, itemsFrom}
 use Rattle.grammar.specs.Symbols.Symbol.{semicolon, plus, asterisk, opening, closing, path, end, name}
-use Rattle.grammar.specs.Symbols.Lexeme.{symbol, bad, long}
-use Rattle.grammar.specs.Machine.{Left, State, Verdict, stepTo, depthOf, limitAt, namesOn, atEnd, stepped, judgeItem, judgeFrom}
+use Rattle.grammar.specs.Symbols.Lexeme.{symbol}
+use Rattle.grammar.specs.Machine.{State, Verdict, stepTo, depthOf, limitAt, namesOn, atEnd, stepped, judgeItem, judgeFrom}
 use Rattle.grammar.specs.Machine.State.{outside, wanting, having, finished}
 use Rattle.grammar.specs.Machine.Verdict.{refused}
 use Rattle.grammar.proofs.Items.{items-step}
@@ -82,21 +82,18 @@ stuckAt st TextEnd w = unfinished st
 stuckAt st Bad w = true
 stuckAt st Long w = true
 
-false-not-true : {X : Type 0} → false ≡ true → X
-false-not-true e = let z : _≡_ {A = ℕ} 0 1 = cc in absurd (omega arith)
-
 -- a symbol without a step is refused by 4
 refused-by-4 : (n k : ℕ) (o : Option State) (go : State → Verdict) → no-step o ≡ true → stepped n k o go ≡ refused 4 k
 unfolding stepped
 refused-by-4 n k none go h = refl
-refused-by-4 n k (some s) go h = false-not-true h
+refused-by-4 n k (some s) go h = absurd (false≢true h)
 
 ended-by-4 : (size : ℕ) (st : State) → unfinished st ≡ true → atEnd size st ≡ refused 4 size
 unfolding atEnd
 ended-by-4 size outside h = refl
 ended-by-4 size (wanting l ks) h = refl
 ended-by-4 size (having l f ks) h = refl
-ended-by-4 size (finished e) h = false-not-true h
+ended-by-4 size (finished e) h = absurd (false≢true h)
 
 -- stuck at the token T, which stands at k, the machine refuses it there by its number
 stuck-refused : (T : Token) (size k : ℕ) (w : List ℕ) (xs : List Item) (st : State) (ns : List Name) → stuckAt st T w ≡ true → (T ≡ TextEnd → k ≡ size)

@@ -1,14 +1,12 @@
 -- The whole text: each way through `compile` gives what the machine's verdict on the text comes to.
-use mathlib.Core.Path.{_≡_, refl, sym, ap, ap₂, subst, _∙_}
-use mathlib.Core.Bool.{Bool, true, false, cond, true≢false}
-use mathlib.Core.List.{List, [], _∷_, _++_}
+use mathlib.Core.Path.{_≡_, refl, sym, ap, subst, _∙_}
+use mathlib.Core.Bool.{Bool, true, false, true≢false}
+use mathlib.Core.List.{List, []}
 use mathlib.Core.Logic.{inl, inr}
 use Prim.Native.Nat.{ℕ, _+_, _-_, _≤_, _<_}
 use native.Mathlib.Omega.{arith}
 use borrow.Author.Tests.{eq-eqb, ne-eqb, lt-ltb, le-ltb}
-use lib.Dec.{eqb}
 use lib.ListN.{length, drop, length-drop, replicate}
-use lib.Seq.{drop-drop}
 use Rattle.meaning.specs.Names.{Name}
 use Rattle.meaning.specs.Words.{Expr, names}
 use Rattle.meaning.specs.Operations.{distinct, distinctAfter}
@@ -21,24 +19,23 @@ use Rattle.text.specs.declared.tokens.Read.{Read}
 use Rattle.text.proofs.Reading.{start-within-used, used-within-text}
 use Rattle.grammar.specs.Symbols.{items}
 use Rattle.grammar.specs.Symbols.Symbol.{path, end}
-use Rattle.grammar.specs.Machine.{Left, State, stepTo, startStep, haveStep, depthOf, limitAt, namesOn, stepped, limited, atEnd, judge, nothingLeft, sumTo}
+use Rattle.grammar.specs.Machine.{Left, stepTo, startStep, haveStep, depthOf, limitAt, namesOn, stepped, limited, atEnd, judge, nothingLeft, sumTo}
 use Rattle.grammar.specs.Machine.State.{outside, wanting, having, finished}
-use Rattle.grammar.specs.Machine.Verdict.{accepted, refused}
+use Rattle.grammar.specs.Machine.Verdict.{refused}
 use Rattle.table.specs.Cells.{zeros}
-use Rattle.table.specs.Rules.{padded, bytesOf, operationsOf, tableOf}
+use Rattle.table.specs.Rules.{padded, bytesOf, operationsOf}
 use Rattle.table.specs.declared.cells.Table.{Table}
 use Rattle.parts.specs.Parts.{completed}
 use Rattle.parts.specs.Progress.{noted, Fine, partOf}
-use Rattle.parts.specs.declared.joining.Part.{Part}
 use Rattle.parts.proofs.NameParts.{nothing-fine}
 use Rattle.parts.proofs.Completed.{completed-part}
-use Rattle.compiler.specs.Reading.{Tail, Goes, ExpressionRead, Part-read, Either-way, Stops, onSum, verdict, behind, endsExpression, isPath, isEnd, isTextEnd, refusedAt, concluded, endBy, ended, unfit}
+use Rattle.compiler.specs.Reading.{Tail, Goes, ExpressionRead, Part-read, Either-way, Stops, verdict, behind, endsExpression, isPath, isEnd, isTextEnd, refusedAt, concluded, endBy, ended, unfit}
 use Rattle.compiler.specs.Computed.{answered, compiled}
 use Rattle.compiler.specs.declared.readers.Reading.{Reading}
 use Rattle.compiler.specs.declared.replies.Compiled.{Compiled}
 use Rattle.compiler.specs.declared.replies.Reply.the-variants.{Accepted as Accepts}
-use Rattle.compiler.proofs.Tails.{slice, slice-drops, slice-size, tail-whole, tail-drop}
-use Rattle.compiler.proofs.Endings.{behind-part, ending, ending-size, ending-tail, behind-fits, behind-starts}
+use Rattle.compiler.proofs.Tails.{slice, slice-drops, tail-whole, tail-drop}
+use Rattle.compiler.proofs.Endings.{behind-part, behind-fits, behind-starts, behind-symbol, behind-stuck}
 use Rattle.compiler.proofs.Verdicts.{is-path, is-end, place, stuckAt, verdict-symbol, verdict-stuck, verdict-ends}
 
 -- only `path` starts a text
@@ -175,47 +172,31 @@ module _ (text : List ℕ) (short : length text ≤ 4096) where
         verdict-symbol text text (tail-whole text) Path path is-path-token (is-path _) outside []
         ∙ ap (λ (k : ℕ). verdict text k (wanting nothingLeft []) []) (sym size-inside)
 
-    at : List ℕ
-    at = ending text e within-all
-
-    size-at : length at ≡ e .left
-    unfolding at
-    size-at = ending-size text e within-all
-
-    tail-at : Tail text at
-    unfolding at
-    tail-at = ending-tail text e within-all text (tail-whole text)
-
     -- where the token behind e stands
-    place-at : place text at ≡ length text - e .left + behind text e .start
-    unfolding at ending
-    place-at = omega (arith, size-at, within-all, behind-starts text e within-all)
+    place-behind : length text - (e .left - behind text e .start) ≡ length text - e .left + behind text e .start
+    place-behind = omega (arith, within-all, behind-starts text e within-all)
 
     -- anything but `end` is refused
     unended : (l : Left) (f : Expr) (ns : List Name) → endsExpression (behind text e .token) ≡ true → isEnd (behind text e .token) ≡ false
         → verdict text (e .left) (having l f []) ns ≡ refused (unfit (behind text e .token)) (length text - e .left + behind text e .start)
-    unfolding at ending
     unended l f ns stop other =
         let T = behind text e .token in
-        ap (λ (k : ℕ). verdict text k (having l f []) ns) (sym size-at)
-        ∙ verdict-stuck text at tail-at (having l f []) ns (unended-stuck l f T _ stop other)
-        ∙ ap (refused (unfit T)) place-at
+        behind-stuck text e within-all text (tail-whole text) (having l f []) ns (unended-stuck l f T _ stop other)
+        ∙ ap (refused (unfit T)) place-behind
 
     -- what is left behind `end`
     last : List ℕ
-    last = drop (behind text e .used) at
-
-    last-is : drop (length text - e .left + behind text e .used) text ≡ last
-    unfolding last at ending
-    last-is = sym (drop-drop (behind text e .used) (length text - e .left) text)
+    last = drop (length text - e .left + behind text e .used) text
 
     size-last : length last ≡ e .left - behind text e .used
     unfolding last
-    size-last = length-drop (behind text e .used) at ∙ ap (λ (k : ℕ). k - behind text e .used) size-at
+    size-last = omega (arith, length-drop (length text - e .left + behind text e .used) text, within-all)
 
     tail-last : Tail text last
     unfolding last
-    tail-last = tail-drop text at tail-at (behind text e .used) (omega (arith, size-at, behind-fits text e within-all))
+    tail-last =
+        tail-drop text text (tail-whole text) (length text - e .left + behind text e .used)
+        (omega (arith, within-all, behind-fits text e within-all))
 
     place-last : place text last ≡ length text - e .left + behind text e .used + nextToken last .start
     place-last =
@@ -224,11 +205,10 @@ module _ (text : List ℕ) (short : length text ≤ 4096) where
     -- `end` takes the machine to its last state
     ends : (l : Left) (f : Expr) (ns : List Name) → isEnd (behind text e .token) ≡ true
         → verdict text (e .left) (having l f []) ns ≡ verdict text (length last) (finished (sumTo l f)) ns
-    unfolding at ending stepTo haveStep depthOf limitAt namesOn stepped limited
+    unfolding stepTo haveStep depthOf limitAt namesOn stepped limited
     ends l f ns is-end-token =
-        ap (λ (k : ℕ). verdict text k (having l f []) ns) (sym size-at)
-        ∙ verdict-symbol text at tail-at End end (is-the-end (behind text e .token) is-end-token) (is-end _) (having l f []) ns
-        ∙ ap (λ (k : ℕ). verdict text (k - behind text e .used) (finished (sumTo l f)) ns) size-at
+        behind-symbol text e within-all text (tail-whole text) (having l f []) ns End end
+        (is-the-end (behind text e .token) is-end-token) (is-end _)
         ∙ ap (λ (k : ℕ). verdict text k (finished (sumTo l f)) ns) (sym size-last)
 
     -- behind it, the text ends, and the table is that of the expression; or there is more, which is refused
@@ -252,13 +232,13 @@ module _ (text : List ℕ) (short : length text ≤ 4096) where
     -- the same for the token behind e
     ends-so : (l : Left) (f : Expr) → e .number ≡ 0 → Part-read inside e endsExpression [] (replicate 64 0) (sumTo l f)
         → ended text e ≡ answered (verdict text (e .left) (having l f []) (names (sumTo l f)))
-    unfolding ended
+    unfolding ended last
     ends-so l f z read = rw (eq-eqb _ _ z) (by (isEnd (behind text e .token)) refl)
       where
         by : (b : Bool) → isEnd (behind text e .token) ≡ b
             → endBy text e (length text - e .left) (behind text e) ≡ answered (verdict text (e .left) (having l f []) (names (sumTo l f)))
         by true is =
-            rw (is, last-is) (concludes (sumTo l f) (names (sumTo l f)) (read .part) (read .fine))
+            rw is (concludes (sumTo l f) (names (sumTo l f)) (read .part) (read .fine))
             ∙ ap answered (sym (ends l f (names (sumTo l f)) is))
         by false is =
             let stop = ap (λ (v : Read). endsExpression (v .token)) (sym behind-inside) ∙ read .ended in

@@ -1,9 +1,9 @@
 -- The same, symbol by symbol from the left: what a reader with a stack does. Nothing here needs to be believed: Promises.antt says
 -- that it accepts and refuses exactly as Refusals.antt says. The compiler's readers follow it.
-use mathlib.Core.Bool.{Bool, true, false, cond, not, _&&_}
+use mathlib.Core.Bool.{cond, not, _&&_}
 use mathlib.Core.List.{List, [], _∷_, _++_}
 use mathlib.Core.Option.{Option, some, none}
-use Prim.Native.Nat.{ℕ, zero, suc, _+_}
+use Prim.Native.Nat.{ℕ, zero, suc}
 use lib.Dec.{ltb, leb}
 use lib.ListN.{length}
 use Rattle.meaning.specs.Names.{Name, key}

@@ -1,20 +1,18 @@
 -- The sets of an expression fit the bits of its positions: first sets, followers and permission sets are made by unions of single
 -- positions below lo + size, by induction on the expression.
 use mathlib.Core.Bool.{Bool, true, false, cond}
-use mathlib.Core.Logic.{_⊎_, inl, inr}
 use Prim.Native.Nat.{ℕ, _+_, _≤_, _<_, _^_}
 use native.Mathlib.Omega.{arith}
 use lib.Bits.{or-lt}
 use lib.Pow.{pow-pos, pow-lt}
-use lib.ListN.{getD, List·getD-eq-default}
+use lib.ListN.{getD}
 use Rattle.meaning.specs.Names.{Name, key, same}
 use Rattle.meaning.specs.Words.{Expr}
 use Rattle.meaning.specs.Words.Expr.{name, seq, choice, star}
 use Rattle.meaning.specs.Sets.{mem}
-use Rattle.meaning.specs.Positions.{size, canBeEmpty, first, last, follows, positionsOf, row, rows, start, permission}
+use Rattle.meaning.specs.Positions.{size, canBeEmpty, first, last, follows, positionsOf, rows, start, permission}
 use Rattle.meaning.specs.Promises.{Sets-fit}
-use Rattle.meaning.proofs.SetLaws.{below-or-not}
-use Rattle.meaning.proofs.Heart.{length-rows, row-at}
+use Rattle.meaning.proofs.RowLaws.{row-cells}
 
 cond-lt : (t : Bool) (k a b : ℕ) → a < 2 ^ k → b < 2 ^ k → cond t a b < 2 ^ k
 cond-lt true k a b h l = h
@@ -49,22 +47,15 @@ positions-fit n (seq a b) lo k h = or-lt n _ _ (positions-fit n a lo k (omega ar
 positions-fit n (choice a b) lo k h = or-lt n _ _ (positions-fit n a lo k (omega arith)) (positions-fit n b (lo + size a) k (omega arith))
 positions-fit n (star a) lo k h = positions-fit n a lo k h
 
-row-fits : (n : ℕ) (e : Expr) (p : ℕ) → size e ≤ n → row e p < 2 ^ n
-unfolding row follows size
-row-fits n e p h = follows-fits n (star e) 0 p (omega arith)
-
-getD-fits : (n : ℕ) (e : Expr) (p : ℕ) → size e ≤ n → getD (rows e) p 0 < 2 ^ n
-getD-fits n e p h = either (below-or-not p (size e))
-  where
-    either : (p < size e) ⊎ (size e ≤ p) → getD (rows e) p 0 < 2 ^ n
-    either (inl l) = rw (row-at e p l) (row-fits n e p h)
-    either (inr l) = rw (List·getD-eq-default (rows e) 0 {n = p} (rw (length-rows e) l)) (pow-pos n)
+row-fits : (n : ℕ) (e : Expr) (p : ℕ) → size e ≤ n → getD (rows e) p 0 < 2 ^ n
+unfolding size
+row-fits n e p h = rw (row-cells e p) (follows-fits n (star e) 0 p (omega arith))
 
 pub sets-fit : Sets-fit
 unfolding start permission
 sets-fit n e h =
     record {
       start-fits = first-fits n e 0 (omega arith);
-      rows-fit = λ p. getD-fits n e p h;
+      rows-fit = λ p. row-fits n e p h;
       permissions-fit = λ k. positions-fit n e 0 k (omega arith);
     }

@@ -1,46 +1,26 @@
 -- The heart: a walk through positions spells a history exactly if the history begins a repetition; so does what a table of
 -- the position rules permits, and the set that it keeps is then not empty. A history is followed name by name through the
 -- rests (`Onward`), and since every rest can be completed, each walk is the beginning of a word.
-use mathlib.Core.Path.{_≡_, refl, sym, ap, _∙_}
+use mathlib.Core.Path.{refl}
 use mathlib.Core.Logic.{_≢_, inl, inr, ⊎-elim}
 use mathlib.Core.List.{List, [], _∷_, _++_, cons≢nil, head-eq-of-cons-eq, tail-eq-of-cons-eq, append-ne-nil-of-right-ne-nil}
-use Prim.Native.Nat.{ℕ, zero, suc, _+_, _<_}
-use native.Mathlib.Nat.{not-suc-le-zero, le-of-suc-le-suc, zero-add, add-zero}
+use Prim.Native.Nat.{ℕ, _+_}
 use native.Mathlib.Omega.{arith}
-use lib.ListN.{length, getD}
+use lib.ListN.{getD}
 use Rattle.meaning.specs.Names.{Name}
 use Rattle.meaning.specs.Words.{Expr, Word, Begins}
 use Rattle.meaning.specs.Words.Expr.{name, seq, choice, star}
 use Rattle.meaning.specs.Words.Repeated.{none}
 use Rattle.meaning.specs.Sets.{In}
-use Rattle.meaning.specs.Positions.{size, first, follows, positionsOf, row, rowsFrom, rows, start, permission}
+use Rattle.meaning.specs.Positions.{size, first, follows, positionsOf, row, rows, start, permission}
 use Rattle.meaning.specs.Following.{Walk}
 use Rattle.meaning.specs.Promises.{Walk-begins, Set-begins, Permits-begins}
 use Rattle.meaning.proofs.SetLaws.{member-not-none}
 use Rattle.meaning.proofs.WordLaws.{repeated-once, some-word}
 use Rattle.meaning.proofs.Rests.{Rest, Inside, which-part, positions-inside}
 use Rattle.meaning.proofs.Onward.{Goes, word-starts, starts-word, rest-continues, continues-rest}
+use Rattle.meaning.proofs.RowLaws.{row-at, row-cells}
 use Rattle.meaning.proofs.Walks.{permits-walk, walk-permits, kept-permits, permits-kept}
-
--- the list of rows has the row of each bit
-length-rows-from : (e : Expr) (n p : ℕ) → length (rowsFrom e n p) ≡ n
-unfolding rowsFrom
-length-rows-from e zero p = refl
-length-rows-from e (suc n) p = ap suc (length-rows-from e n (suc p))
-
-row-from : (e : Expr) (n p q : ℕ) → q < n → getD (rowsFrom e n p) q 0 ≡ row e (p + q)
-unfolding rowsFrom
-row-from e zero p q h = absurd (not-suc-le-zero h)
-row-from e (suc n) p zero h = ap (row e) (sym (add-zero p))
-row-from e (suc n) p (suc q) h = row-from e n (suc p) q (le-of-suc-le-suc h) ∙ ap (row e) (omega arith)
-
-pub length-rows : (e : Expr) → length (rows e) ≡ size e
-unfolding rows
-length-rows e = length-rows-from e (size e) 0
-
-pub row-at : (e : Expr) (p : ℕ) → p < size e → getD (rows e) p 0 ≡ row e p
-unfolding rows
-row-at e p h = row-from e (size e) 0 p h ∙ ap (row e) (zero-add p)
 
 -- every rest can be completed
 pub some-rest : (e : Expr) (lo p : ℕ) → Inside lo (size e) p → (w : List Name) × Rest e lo p w
@@ -62,26 +42,21 @@ some-rest (choice a b) lo p i =
 some-rest (star a) lo p i = let r = some-rest a lo p i in (r .0 ++ [], (r .0, [], r .1, none refl, refl))
 
 module _ (e : Expr) where
-  -- a row is what follows in the repetition
-  row-follows : (p : ℕ) → Inside 0 (size e) p → getD (rows e) p 0 ≡ follows (star e) 0 p
-  unfolding row follows
-  row-follows p i = row-at e p (omega arith)
-
   -- what goes on with k and then h is walked through k and h, if what comes after a position is walked through h
   goes-walk : (s : ℕ) (h w : List Name) (k : Name)
-      → ((p : ℕ) → Inside 0 (size e) p → Rest (star e) 0 p (h ++ w) → Walk (rows e) (permission e) (getD (rows e) p 0) h)
+      → ((p : ℕ) → Rest (star e) 0 p (h ++ w) → Walk (rows e) (permission e) (getD (rows e) p 0) h)
       → Goes s (positionsOf (star e) 0) (Rest (star e) 0) (k ∷ (h ++ w)) → Walk (rows e) (permission e) s (k ∷ h)
   unfolding Walk permission positionsOf
   goes-walk s h w k walks (k′, v, p, d, i, j, r) =
-      (p, i, rw (head-eq-of-cons-eq d) j, walks p (positions-inside e 0 p k′ j) (rw (tail-eq-of-cons-eq d) r))
+      (p, i, rw (head-eq-of-cons-eq d) j, walks p (rw (tail-eq-of-cons-eq d) r))
 
-  rest-walk : (h w : List Name) (p : ℕ) → Inside 0 (size e) p → Rest (star e) 0 p (h ++ w) → Walk (rows e) (permission e) (getD (rows e) p 0) h
+  rest-walk : (h w : List Name) (p : ℕ) → Rest (star e) 0 p (h ++ w) → Walk (rows e) (permission e) (getD (rows e) p 0) h
   unfolding Walk
-  rest-walk [] w p i r = tt
-  rest-walk (k ∷ h) w p i r =
+  rest-walk [] w p r = tt
+  rest-walk (k ∷ h) w p r =
       ⊎-elim
       (λ c. absurd (cons≢nil (c .1)))
-      (λ g. goes-walk (getD (rows e) p 0) h w k (rest-walk h w) (rw (row-follows p i) g))
+      (λ g. goes-walk (getD (rows e) p 0) h w k (rest-walk h w) (rw (row-cells e p) g))
       (rest-continues (star e) 0 p (k ∷ (h ++ w)) r)
 
   begins-walk : (h : List Name) → Begins e h → Walk (rows e) (permission e) (start e) h
@@ -100,7 +75,7 @@ module _ (e : Expr) where
   walk-rest [] p i t = some-rest (star e) 0 p i
   walk-rest (k ∷ h) p i (q, l, j, t) =
       let r = walk-rest h q (positions-inside e 0 q k j) t in
-      (r .0, continues-rest (star e) 0 p (k ∷ (h ++ r .0)) (inr (k, h ++ r .0, q, refl, rw (row-follows p i) at l, j, r .1)))
+      (r .0, continues-rest (star e) 0 p (k ∷ (h ++ r .0)) (inr (k, h ++ r .0, q, refl, rw (row-cells e p) at l, j, r .1)))
 
   walk-begins-of : (h : List Name) → Walk (rows e) (permission e) (start e) h → Begins e h
   unfolding Walk start first permission positionsOf Word

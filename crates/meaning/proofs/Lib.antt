@@ -2,11 +2,13 @@
 pub mod NameLaws
 pub mod OperationLaws
 pub mod SetLaws
+pub mod NumberLaws
 pub mod WordLaws
 pub mod Beginnings
 pub mod Rests
 pub mod Numbering
 pub mod Onward
+pub mod RowLaws
 pub mod Walks
 pub mod Heart
 pub mod Fitting

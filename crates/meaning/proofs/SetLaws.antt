@@ -1,14 +1,14 @@
 -- The laws of sets of positions: who is a member of the empty set, a single position, a union, what two sets share, and a
--- union of rows; sets with the same members are equal; a set that is not empty has a member. By induction on the bit,
--- halving the set.
+-- union of rows; sets with the same members are equal; a set is below 2 ^ k exactly if its members are below k; a set that is
+-- not empty has a member. By induction on the bit, halving the set.
 use mathlib.Core.Path.{_≡_, refl, sym, ap, _∙_}
 use mathlib.Core.Logic.{_↔_, _≢_, _⊎_, inl, inr, ⊎-elim}
 use mathlib.Core.List.{List, [], _∷_}
-use mathlib.Core.Bool.{Bool, true, false, cond, _||_, _&&_, false≢true, and-eq-true-iff, true≢false}
+use mathlib.Core.Bool.{Bool, true, false, cond, not, _||_, _&&_, false≢true, and-eq-true-iff, true≢false, or-assoc}
 use Prim.Native.Nat.{ℕ, zero, suc, _+_, _*_, _<_, _≤_, _/_, _%_, _^_, min, max}
 use native.Mathlib.Nat.{not-suc-le-zero, le-of-suc-le-suc, pow-suc, pow-zero}
 use native.Mathlib.Omega.{arith}
-use borrow.Author.Tests.{eqb-true, eqb-false, eq-eqb, ltb-true, ltb-false}
+use borrow.Author.Tests.{eqb-true, eqb-false, eq-eqb, ne-eqb, ltb-true, ltb-false, not-true}
 use lib.ListN.{length, getD}
 use lib.Dec.{eqb, ltb, eqb·zero-suc, eqb·suc-zero, eqb·suc-suc}
 use lib.Bits.{bitOr, bitAnd, or-step, and-step}
@@ -86,6 +86,12 @@ pub either-true : (a b : Bool) → (a || b ≡ true) ↔ ((a ≡ true) ⊎ (b �
 either-true true b = (λ h. inl refl, λ h. refl)
 either-true false b = (inr, ⊎-elim (λ h. absurd (false≢true h)) (λ h. h))
 
+-- what decides one thing is one truth
+pub both-decide : {P : Type 0} (r r′ : Bool) → (r ≡ true) ↔ P → (r′ ≡ true) ↔ P → r ≡ r′
+both-decide true r′ d d′ = sym (d′ .1 (d .0 refl))
+both-decide false true d d′ = d .1 (d′ .0 refl)
+both-decide false false d d′ = refl
+
 pub in-union : (p a b : ℕ) → In p (bitOr a b) ↔ (In p a ⊎ In p b)
 in-union p a b = rw (mem-union p a b) (either-true (mem p a) (mem p b))
 
@@ -123,6 +129,15 @@ same-up-to (suc k) a b ha hb e =
 
 pub same-members : (a b : ℕ) → ((p : ℕ) → mem p a ≡ mem p b) → a ≡ b
 same-members a b e = same-up-to (a + b) a b (omega arith) (omega arith) e
+
+pub same-sets : (a b : ℕ) → ((p : ℕ) → In p a ↔ In p b) → a ≡ b
+same-sets a b e = same-members a b (λ p. both-decide (mem p a) (mem p b) (e p) (λ h. h, λ h. h))
+
+-- unions may be grouped either way
+pub union-assoc : (a b c : ℕ) → bitOr (bitOr a b) c ≡ bitOr a (bitOr b c)
+union-assoc a b c =
+    same-members (bitOr (bitOr a b) c) (bitOr a (bitOr b c)) (λ p.
+    rw (mem-union p (bitOr a b) c, mem-union p a b, mem-union p a (bitOr b c), mem-union p b c) (or-assoc (mem p a) (mem p b) (mem p c)))
 
 -- a set below 2 ^ k has members below k only
 pub mem-beyond : (p k s : ℕ) → s < 2 ^ k → k ≤ p → mem p s ≡ false
@@ -176,6 +191,22 @@ member s h = member-up-to s s (omega arith) h
 pub member-not-none : (p s : ℕ) → In p s → s ≢ 0
 member-not-none p s m e = none-in p (rw e at m)
 
+-- the test that a set is not empty
+pub not-empty-says : (s : ℕ) → (not (eqb s 0) ≡ true) ↔ (s ≢ 0)
+not-empty-says s = (λ t. eqb-false s 0 (not-true (eqb s 0) t), λ h. rw (ne-eqb s 0 h))
+
+-- a set with members below k only is below 2 ^ k
+pub members-below : (k s : ℕ) → ((p : ℕ) → In p s → p < k) → s < 2 ^ k
+unfolding mem
+members-below zero s h =
+    ⊎-elim
+    (λ none. none)
+    (λ some. let m = member s (λ e. omega arith) in absurd (not-suc-le-zero (h (m .0) (m .1))))
+    (below-or-not s 1)
+members-below (suc k) s h =
+    let half : s / 2 < 2 ^ k = members-below k (s / 2) (λ p i. le-of-suc-le-suc (h (suc p) i)) in
+    rw (pow-suc 2 k) (omega arith)
+
 -- q is in the row of some member of s
 abbrev pub InRowOf : List ℕ → ℕ → ℕ → Type 0
 InRowOf rs s q = (p : ℕ) × (p < length rs) × In p s × In q (getD rs p 0)
@@ -200,11 +231,7 @@ union-of-in (r ∷ rs) s q (suc p) l m h =
 
 -- no row of the empty set
 pub union-of-none : (rs : List ℕ) → unionOf rs 0 ≡ 0
-union-of-none rs = same-members (unionOf rs 0) 0 (λ q. go q (mem q (unionOf rs 0)) refl)
-  where
-    go : (q : ℕ) (t : Bool) → mem q (unionOf rs 0) ≡ t → mem q (unionOf rs 0) ≡ mem q 0
-    go q true e = none-in (in-union-of rs 0 q e .0) (in-union-of rs 0 q e .2)
-    go q false e = e ∙ sym (mem-none q)
+union-of-none rs = same-sets (unionOf rs 0) 0 (λ q. (λ h. let i = in-union-of rs 0 q h in none-in (i .0) (i .2), none-in q))
 
 pub laws-of-sets : Laws-of-sets
 laws-of-sets =

@@ -1,25 +1,17 @@
 -- Walks, permitted histories and kept sets are three views of one thing, for any rows and permission sets: a set stands for
 -- all the positions at which a walk may be. By induction on the history.
-use mathlib.Core.Path.{_≡_, refl, sym, ap, _∙_}
+use mathlib.Core.Path.{_≡_, refl}
 use mathlib.Core.Logic.{_≢_, _⊎_, inl, inr}
-use mathlib.Core.Bool.{true, not, false≢true, and-eq-true-iff}
+use mathlib.Core.Bool.{true, not, and-eq-true-iff}
 use mathlib.Core.List.{List, [], _∷_}
 use Prim.Native.Nat.{ℕ, _<_, _≤_}
-use borrow.Author.Tests.{eq-eqb, ne-eqb}
 use lib.Bits.{bitAnd}
 use lib.Dec.{eqb}
 use lib.ListN.{length, getD, List·getD-eq-default}
 use Rattle.meaning.specs.Names.{Name}
 use Rattle.meaning.specs.Sets.{In, unionOf}
 use Rattle.meaning.specs.Following.{Walk, setAfter, permits}
-use Rattle.meaning.proofs.SetLaws.{none-in, in-shared, member, member-not-none, below-or-not, in-union-of, union-of-in, union-of-none}
-
--- the test "meets" says that something is shared
-pub meets-true : (m : ℕ) → not (eqb m 0) ≡ true → m ≢ 0
-meets-true m h e = false≢true (sym (ap not (eq-eqb m 0 e)) ∙ h)
-
-pub true-meets : (m : ℕ) → m ≢ 0 → not (eqb m 0) ≡ true
-true-meets m h = ap not (ne-eqb m 0 h)
+use Rattle.meaning.proofs.SetLaws.{none-in, in-shared, member, member-not-none, not-empty-says, below-or-not, in-union-of, union-of-in, union-of-none}
 
 module _ (rows : List ℕ) (permission : Name → ℕ) where
   -- a row that has a member is one of the rows
@@ -49,7 +41,7 @@ module _ (rows : List ℕ) (permission : Name → ℕ) where
   permits-walk s (k ∷ h) e =
       let m = bitAnd s (permission k) in
       let c = and-eq-true-iff (not (eqb m 0)) (permits rows permission (unionOf rows m) h) .0 e in
-      let i = walk-out-of m h (meets-true m (c .0)) (permits-walk (unionOf rows m) h (c .1)) in
+      let i = walk-out-of m h (not-empty-says m .0 (c .0)) (permits-walk (unionOf rows m) h (c .1)) in
       let o = in-shared (i .0) s (permission k) .0 (i .1) in
       (i .0, o .0, o .1, i .2)
 
@@ -60,7 +52,7 @@ module _ (rows : List ℕ) (permission : Name → ℕ) where
       let m = bitAnd s (permission k) in
       let o = in-shared p s (permission k) .1 (i, j) in
       and-eq-true-iff (not (eqb m 0)) (permits rows permission (unionOf rows m) h) .1
-      (true-meets m (member-not-none p m o), walk-permits (unionOf rows m) h (walk-into m p h o t))
+      (not-empty-says m .1 (member-not-none p m o), walk-permits (unionOf rows m) h (walk-into m p h o t))
 
   -- nothing is kept of the empty set
   none-after : (h : List Name) → setAfter rows permission 0 h ≡ 0
@@ -74,7 +66,7 @@ module _ (rows : List ℕ) (permission : Name → ℕ) where
   kept-permits s (k ∷ h) n =
       let m = bitAnd s (permission k) in
       and-eq-true-iff (not (eqb m 0)) (permits rows permission (unionOf rows m) h) .1
-      (true-meets m (λ e. n (rw (e, union-of-none rows) (none-after h))), kept-permits (unionOf rows m) h n)
+      (not-empty-says m .1 (λ e. n (rw (e, union-of-none rows) (none-after h))), kept-permits (unionOf rows m) h n)
 
   -- where every position that an operation has is followed by another, a permitted history keeps a set that is not empty
   pub permits-kept : ((p : ℕ) (k : Name) → In p (permission k) → getD rows p 0 ≢ 0) → (s : ℕ) (h : List Name) → s ≢ 0
@@ -84,7 +76,7 @@ module _ (rows : List ℕ) (permission : Name → ℕ) where
   permits-kept lively s (k ∷ h) n e =
       let m = bitAnd s (permission k) in
       let c = and-eq-true-iff (not (eqb m 0)) (permits rows permission (unionOf rows m) h) .0 e in
-      let i = member m (meets-true m (c .0)) in
+      let i = member m (not-empty-says m .0 (c .0)) in
       let o = in-shared (i .0) s (permission k) .0 (i .1) in
       let j = member (getD rows (i .0) 0) (lively (i .0) k (o .1)) in
       let u = union-of-in rows m (j .0) (i .0) (row-exists (i .0) (j .0) (j .1)) (i .1) (j .1) in

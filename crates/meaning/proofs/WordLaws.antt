@@ -1,8 +1,8 @@
--- Words of a repetition: they can be joined, a word that is not empty starts with a word of the part that is not empty, and
+-- Words of a repetition: a word of the part is one, and one that is not empty starts with a word of the part that is not empty. And
 -- every expression has a word that is not empty.
-use mathlib.Core.Path.{_≡_, refl, sym, ap, _∙_}
+use mathlib.Core.Path.{_≡_, refl, sym, _∙_}
 use mathlib.Core.Logic.{_⊎_, inl, inr}
-use mathlib.Core.List.{List, [], _∷_, _++_, append-assoc, append-nil}
+use mathlib.Core.List.{List, [], _∷_, _++_, append-nil}
 use Rattle.meaning.specs.Names.{Name, key}
 use Rattle.meaning.specs.Words.{Expr, Repeated, Word}
 use Rattle.meaning.specs.Words.Expr.{name, seq, choice, star}
@@ -10,11 +10,6 @@ use Rattle.meaning.specs.Words.Repeated.{none, more}
 
 pub repeated-once : (W : List Name → Type 0) (w : List Name) → W w → Repeated W w
 repeated-once W w h = more w [] h (none refl) (sym (append-nil w))
-
-pub repeated-join : (W : List Name → Type 0) {u v : List Name} → Repeated W u → Repeated W v → Repeated W (u ++ v)
-repeated-join W {u} {v} (none e) r = rw e r
-repeated-join W {u} {v} (more x y h t e) r =
-    more x (y ++ v) h (repeated-join W t r) (ap (λ (l : List Name). l ++ v) e ∙ append-assoc x y v)
 
 -- a word of W that is not empty, and a repetition after it
 abbrev pub Opened : (List Name → Type 0) → List Name → Type 0

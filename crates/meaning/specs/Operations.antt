@@ -1,7 +1,7 @@
 -- "Operations are the distinct names, numbered 0, 1, .. in order of first appearance."
-use mathlib.Core.Bool.{Bool, true, false, cond, _||_}
+use mathlib.Core.Bool.{Bool, false, cond, _||_}
 use mathlib.Core.List.{List, [], _∷_, _++_}
-use Prim.Native.Nat.{ℕ, zero, suc}
+use Prim.Native.Nat.{ℕ, suc}
 use Rattle.meaning.specs.Names.{Name, key, same}
 
 -- a name of key k is among them

@@ -1,20 +1,20 @@
 -- The parts of an expression come to the part of the whole: each rule of the program is the rule of document 01.
 use mathlib.Core.Path.{_≡_, refl, sym, ap, ap₂, _∙_}
-use mathlib.Core.Bool.{Bool, true, false, cond, _||_}
+use mathlib.Core.Bool.{Bool, true, false, cond}
 use mathlib.Core.List.{List, [], _∷_, _++_, append-assoc}
 use Prim.Native.Nat.{ℕ, zero, suc, _+_, _/_}
 use native.Mathlib.Omega.{arith}
 use borrow.Author.Tests.{ne-eqb}
-use lib.Bits.{bitOr}
+use lib.Bits.{bitOr, or-self}
 use lib.Dec.{eqb}
 use lib.ListN.{length, length-append}
 use Rattle.meaning.specs.Names.{Name}
 use Rattle.meaning.specs.Words.{Expr, names}
-use Rattle.meaning.specs.Words.Expr.{name, seq, choice, star}
+use Rattle.meaning.specs.Words.Expr.{seq, choice, star}
 use Rattle.meaning.specs.Positions.{size, canBeEmpty, first, last}
 use Rattle.meaning.specs.Sets.{mem}
 use Rattle.meaning.proofs.Numbering.{size-names}
-use Rattle.meaning.proofs.SetLaws.{same-members, mem-union}
+use Rattle.meaning.proofs.SetLaws.{union-assoc}
 use Rattle.table.specs.declared.cells.Table.{Table}
 use Rattle.table.specs.Linking.{linked}
 use Rattle.parts.specs.declared.joining.Part.{Part}
@@ -61,17 +61,8 @@ unfolding partOf canBeEmpty first last names rowsAfter noted
 part-star a ns rs = refl
 
 -- joining a set twice is joining it once
-union-again : (r f : ℕ) → bitOr (bitOr r f) f ≡ bitOr r f
-union-again r f =
-    same-members (bitOr (bitOr r f) f) (bitOr r f) (λ p. rw (mem-union p (bitOr r f) f, mem-union p r f) (either-again (mem p r) (mem p f)))
-  where
-    either-again : (a b : Bool) → (a || b) || b ≡ a || b
-    either-again true b = refl
-    either-again false true = refl
-    either-again false false = refl
-
 row-again : (t : Bool) (r f : ℕ) → cond t (bitOr (cond t (bitOr r f) r) f) (cond t (bitOr r f) r) ≡ cond t (bitOr r f) r
-row-again true r f = union-again r f
+row-again true r f = union-assoc r f f ∙ ap (bitOr r) (or-self f)
 row-again false r f = refl
 
 -- and so is linking

@@ -15,14 +15,15 @@ use Rattle.meaning.specs.Words.{names}
 use Rattle.meaning.specs.Words.Expr.{name}
 use Rattle.meaning.specs.Operations.{holds, added, distinct, distinctAfter, numberOf}
 use Rattle.meaning.specs.Positions.{canBeEmpty, first, last}
-use Rattle.meaning.proofs.OperationLaws.{added-known, added-new, distinct-snoc, length-added}
+use Rattle.meaning.proofs.OperationLaws.{added-known, added-new, distinct-snoc, length-added, distinct-member}
+use Rattle.meaning.proofs.NumberLaws.{number-new}
 use Rattle.table.specs.declared.numbers.Operation.{Operation}
 use Rattle.table.specs.declared.names.Found.the-variants.{At, Nowhere}
 use Rattle.table.specs.Cells.{namesOf}
 use Rattle.table.specs.Following.{foundIn}
 use Rattle.table.specs.Linking.{single}
 use Rattle.table.specs.Rules.{padded, operationsOf}
-use Rattle.table.proofs.NameNumbers.{distinct-member, number-new, length-operations, operations-snoc}
+use Rattle.table.proofs.NameNumbers.{length-operations, operations-snoc}
 use Rattle.table.proofs.Padding.{padded-snoc}
 use Rattle.table.proofs.Spelled.{spelled-back}
 use Rattle.parts.specs.Parts.{refusal, named, positioned, placedAs, placed}
@@ -84,7 +85,7 @@ module _ (ns : List Name) (rs : List ℕ) (n : Name) (fine : Fine ns) (short : l
 
   names-noted : namesOf (noted ns rs) ≡ distinct ns
   unfolding namesOf noted
-  names-noted = spelled-back (distinct ns) (fine .names-few) distinct-short
+  names-noted = spelled-back (distinct ns) distinct-short
 
   -- a short name is looked up among the distinct ones, if there is a position left
   placed-found : placed (noted ns rs) n

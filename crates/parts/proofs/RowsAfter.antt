@@ -1,33 +1,25 @@
 -- The rows of a table that is being built, cell by cell: linking joins a set into the rows of some positions, so an expression that is
--- read joins into each row what follows its position there. Positions behind the expression get nothing. The rows of the whole are what
--- its star leaves of zeros, since a row is what follows in the repetition.
+-- read joins into each row what follows its position there. The rows of the whole are what its star leaves of zeros, since a row is
+-- what follows in the repetition.
 use mathlib.Core.Path.{_≡_, refl, sym, ap, _∙_}
-use mathlib.Core.Bool.{Bool, true, false, cond, or-assoc}
-use mathlib.Core.Logic.{_⊎_, inl, inr}
+use mathlib.Core.Bool.{Bool, true, false, cond}
 use mathlib.Core.List.{List, [], _∷_}
 use Prim.Native.Nat.{ℕ, zero, suc, _+_, _≤_, _<_, _/_}
 use native.Mathlib.Nat.{not-suc-le-zero, le-of-suc-le-suc}
 use native.Mathlib.Omega.{arith}
 use lib.Bits.{bitOr, or-zero-r}
-use lib.ListN.{length, getD, replicate, length-replicate, getD-replicate, List·getD-eq-default}
+use lib.ListN.{length, getD, replicate, length-replicate, getD-replicate}
 use lib.Seq.{ext-getD}
 use Rattle.meaning.specs.Words.{Expr}
 use Rattle.meaning.specs.Words.Expr.{name, seq, choice, star}
 use Rattle.meaning.specs.Sets.{mem}
-use Rattle.meaning.specs.Positions.{size, first, last, follows, row, rows}
-use Rattle.meaning.proofs.SetLaws.{mem-union, same-members, below-or-not}
-use Rattle.meaning.proofs.Rests.{rest-inside}
-use Rattle.meaning.proofs.Onward.{continues-rest}
-use Rattle.meaning.proofs.Heart.{length-rows, row-at}
+use Rattle.meaning.specs.Positions.{size, first, last, follows, rows}
+use Rattle.meaning.proofs.SetLaws.{union-assoc}
+use Rattle.meaning.proofs.RowLaws.{length-rows, row-cells}
 use Rattle.table.specs.Linking.{linked}
 use Rattle.table.specs.Rules.{padded}
 use Rattle.table.proofs.Padding.{length-padded, padded-at}
 use Rattle.parts.specs.Progress.{rowsAfter}
-
-union-assoc : (a b c : ℕ) → bitOr (bitOr a b) c ≡ bitOr a (bitOr b c)
-union-assoc a b c =
-    same-members (bitOr (bitOr a b) c) (bitOr a (bitOr b c)) (λ p.
-    rw (mem-union p (bitOr a b) c, mem-union p a b, mem-union p a (bitOr b c), mem-union p b c) (or-assoc (mem p a) (mem p b) (mem p c)))
 
 -- linking keeps the number of rows, and joins f into the rows of l
 length-linked : (rs : List ℕ) (l f : ℕ) → length (linked rs l f) ≡ length rs
@@ -81,32 +73,6 @@ after-at (star a) lo rs p h =
     linked-at (rowsAfter a lo rs) (last a lo) (first a lo) p (omega (arith, length-after a lo rs))
     ∙ ap (λ (r : ℕ). bitOr r link) (after-at a lo rs p h)
     ∙ union-assoc (getD rs p 0) (follows a lo p) link
-
--- behind its own bits an expression has no last position
-last-behind : (e : Expr) (lo p : ℕ) → lo + size e ≤ p → mem p (last e lo) ≡ false
-last-behind e lo p h = go (mem p (last e lo)) refl
-  where
-    go : (t : Bool) → mem p (last e lo) ≡ t → t ≡ false
-    go true is-last = absurd (omega (arith, rest-inside e lo p [] (continues-rest e lo p [] (inl (is-last, refl)))))
-    go false is-last = refl
-
--- and nothing follows there
-follows-behind : (e : Expr) (lo p : ℕ) → lo + size e ≤ p → follows e lo p ≡ 0
-unfolding follows size
-follows-behind (name n) lo p h = refl
-follows-behind (seq a b) lo p h =
-    rw (follows-behind a lo p (omega arith), follows-behind b (lo + size a) p (omega arith), last-behind a lo p (omega arith))
-follows-behind (choice a b) lo p h = rw (follows-behind a lo p (omega arith), follows-behind b (lo + size a) p (omega arith))
-follows-behind (star a) lo p h = rw (follows-behind a lo p h, last-behind a lo p h)
-
--- so the rows, read as cells with zeros behind them, are what follows in the repetition
-row-cells : (e : Expr) (p : ℕ) → getD (rows e) p 0 ≡ follows (star e) 0 p
-unfolding row follows size
-row-cells e p = go (below-or-not p (size e))
-  where
-    go : (p < size e) ⊎ (size e ≤ p) → getD (rows e) p 0 ≡ follows (star e) 0 p
-    go (inl l) = row-at e p l
-    go (inr l) = List·getD-eq-default (rows e) 0 {n = p} (rw (length-rows e) l) ∙ sym (follows-behind (star e) 0 p (omega arith))
 
 -- all rows are linked once more, from the last positions of the whole to its first ones: those are the rows of its star
 pub rows-completed : (e : Expr) (n : ℕ) → size e ≤ n

@@ -1,6 +1,6 @@
 -- Parts, as the program joins them: each rule of document 01, "The table", on a table that is being built. What the parts of an
 -- expression come to is in Progress.antt.
-use mathlib.Core.Bool.{Bool, true, false, cond, _&&_, _||_}
+use mathlib.Core.Bool.{true, false, cond, _&&_, _||_}
 use mathlib.Core.List.{List, _++_}
 use Prim.Native.Nat.{ℕ, _+_, _*_}
 use lib.Bits.{bitOr}

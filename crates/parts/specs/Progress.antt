@@ -1,8 +1,6 @@
 -- What the parts of an expression come to, as the readers tell each other. Nothing here needs to be believed: it serves the private
 -- contracts of the compiler's readers.
-use mathlib.Core.Path.{_≡_}
-use mathlib.Core.Bool.{true, false}
-use mathlib.Core.List.{List, [], _∷_, _++_, map, List·Memᴰ}
+use mathlib.Core.List.{List, _++_, map, List·Memᴰ}
 use Prim.Native.Nat.{ℕ, zero, suc, _+_, _≤_}
 use lib.ListN.{length}
 use Rattle.meaning.specs.Names.{Name}

@@ -1,13 +1,14 @@
 -- What each public function answers is determined: two answers that both meet its contract are one, since the contract is an
 -- equation with a definition, or says exactly when the answer is true.
-use mathlib.Core.Path.{_≡_, refl, sym}
-use mathlib.Core.Bool.{Bool, true, false}
+use mathlib.Core.Path.{_≡_}
+use mathlib.Core.Bool.{Bool, true}
 use mathlib.Core.List.{List}
 use mathlib.Core.Logic.{_↔_}
 use Prim.Native.Nat.{ℕ}
 use lib.ListN.{take}
 use Rattle.meaning.specs.Names.{key}
 use Rattle.meaning.specs.Sets.{unionOf}
+use Rattle.meaning.proofs.SetLaws.{both-decide}
 use Rattle.text.proofs.Determined.{both-equal}
 use Rattle.table.specs.declared.numbers.Operation.{Operation}
 use Rattle.table.specs.declared.numbers.Position.{Position}
@@ -18,11 +19,6 @@ use Rattle.table.specs.Following.{meeting, positionsWith, foundIn}
 use Rattle.table.specs.Linking.{single, linked}
 use Rattle.table.specs.Marks.{markOf}
 use Rattle.table.specs.Soundness.{Sound}
-
-both-decide : {P : Type 0} (r r′ : Bool) → (r ≡ true) ↔ P → (r′ ≡ true) ↔ P → r ≡ r′
-both-decide true r′ d d′ = sym (d′ .1 (d .0 refl))
-both-decide false true d d′ = d .1 (d′ .0 refl)
-both-decide false false d d′ = refl
 
 pub no-table-determined : (r r′ : Table) → r ≡ zeros → r′ ≡ zeros → r ≡ r′
 no-table-determined r r′ = both-equal

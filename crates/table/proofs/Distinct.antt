@@ -9,8 +9,9 @@ use lib.ListN.{length, take, getD, length-take}
 use lib.Seq.{length-take-le, getD-take}
 use Rattle.meaning.specs.Names.{Name, key}
 use Rattle.meaning.specs.Operations.{holds}
+use Rattle.meaning.proofs.OperationLaws.{at-held}
+use Rattle.meaning.proofs.NumberLaws.{held-at}
 use Rattle.meaning.proofs.SetLaws.{below-or-not}
-use Rattle.table.proofs.Holding.{held-at, at-held}
 
 -- no two of the first `names` have one key
 abbrev pub Distinct : ℕ → List Name → Type 0

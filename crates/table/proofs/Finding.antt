@@ -1,33 +1,28 @@
 -- Searching a list of names from the front: while none of the first i is the one, the search goes on; the first that is the one
 -- is where `foundIn` finds it.
-use mathlib.Core.Path.{_≡_, refl, ap}
-use mathlib.Core.Bool.{Bool, true, false, _||_, true≢false}
-use mathlib.Core.List.{List, [], _∷_}
-use Prim.Native.Nat.{ℕ, zero, suc, _+_, _≤_, _<_}
-use native.Mathlib.Nat.{le-of-suc-le-suc}
+use mathlib.Core.Path.{_≡_, refl, ap, _∙_}
+use mathlib.Core.Bool.{true, false}
+use mathlib.Core.List.{List, []}
+use Prim.Native.Nat.{ℕ, _+_, _≤_, _<_}
 use native.Mathlib.Numerals.{add-one}
 use native.Mathlib.Omega.{arith}
 use lib.ListN.{length, take, getD}
-use lib.Seq.{take-all, take-suc}
+use lib.Seq.{take-all, take-suc, split-at, length-take-le}
 use Rattle.meaning.specs.Names.{Name, key, same}
 use Rattle.meaning.specs.Operations.{holds, numberOf}
 use Rattle.meaning.proofs.OperationLaws.{holds-append}
+use Rattle.meaning.proofs.NumberLaws.{number-append}
 use Rattle.table.specs.declared.names.Found.the-variants.{At, Nowhere}
 use Rattle.table.specs.Following.{foundIn}
-
-neither : (a b : Bool) → a || b ≡ false → (a ≡ false) × (b ≡ false)
-neither true b h = absurd (true≢false h)
-neither false b h = (refl, h)
 
 first-here : (ns : List Name) (k : Name) (i : ℕ) → i < length ns
     → holds (take i ns) k ≡ false → same (key (getD ns i [])) k ≡ true → (holds ns k ≡ true) × (numberOf ns k ≡ i)
 unfolding holds numberOf
-first-here [] k i h none here = absurd (omega arith)
-first-here (n ∷ ns) k zero h none here = (rw here, rw here)
-first-here (n ∷ ns) k (suc i) h none here =
-    let other = neither (same (key n) k) (holds (take i ns) k) none in
-    let rest = first-here ns k i (le-of-suc-le-suc h) (other .1) here in
-    (rw (other .0) (rest .0), rw (other .0) (ap suc (rest .1)))
+first-here ns k i h none here =
+    let whole = split-at ns i [] h in (
+      ap (λ (ms : List Name). holds ms k) whole ∙ rw (holds-append, none, here),
+      ap (λ (ms : List Name). numberOf ms k) whole ∙ rw (number-append, none, here) (omega (arith, length-take-le i ns (omega arith))),
+    )
 
 module _ (ns : List Name) (k : Name) where
   -- what the search keeps: none of the first i names is the one

@@ -1,7 +1,7 @@
 -- What the test of one name says: a fresh name is well formed and has no key of a name before it; and what the bytes kept for a
 -- name say, whether it is in use or not.
-use mathlib.Core.Path.{_≡_, sym, _∙_}
-use mathlib.Core.Bool.{true, false, _&&_, and-eq-true-iff}
+use mathlib.Core.Path.{_≡_, refl, sym, _∙_}
+use mathlib.Core.Bool.{Bool, true, false, cond, not, _&&_, and-eq-true-iff}
 use mathlib.Core.List.{List, []}
 use mathlib.Core.Logic.{_↔_, ⊎-elim}
 use Prim.Native.Nat.{ℕ, _+_, _*_, _≤_, _<_}
@@ -9,15 +9,24 @@ use borrow.Author.Tests.{eqb-true, eq-eqb, leb-true, le-leb, lt-ltb, le-ltb, not
 use lib.Dec.{leb}
 use lib.ListN.{length, take, getD}
 use Rattle.meaning.specs.Names.{Name, key}
-use Rattle.meaning.specs.Operations.{holds}
+use Rattle.meaning.specs.Operations.{holds, numberOf}
 use Rattle.meaning.proofs.SetLaws.{below-or-not}
 use Rattle.text.specs.Tokens.{wellFormed}
+use Rattle.table.specs.declared.names.Found.the-variants.{At, Nowhere}
 use Rattle.table.specs.Cells.{spellings}
 use Rattle.table.specs.Following.{foundIn}
 use Rattle.table.specs.Tests.{isNew, freshTest, usedTest, zeroTest, zerosTest, nameTest, nameAtTest}
-use Rattle.table.proofs.Holding.{new-not-held}
 use Rattle.table.proofs.Passing.{each-says, each-said}
 use Rattle.table.proofs.Spellings.{spelling-at}
+
+-- a name that is found nowhere is one that the list does not hold
+new-not-held : (ns : List Name) (k : Name) → isNew (foundIn ns k) ≡ not (holds ns k)
+unfolding foundIn
+new-not-held ns k = go (holds ns k)
+  where
+    go : (t : Bool) → isNew (cond t (At (record { 0 = numberOf ns k })) Nowhere) ≡ not t
+    go true = refl
+    go false = refl
 
 pub fresh-says : (name : Name) (before : List Name)
     → (freshTest name before ≡ true) ↔ ((wellFormed name ≡ true) × (holds before (key name) ≡ false))

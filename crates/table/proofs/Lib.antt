@@ -2,6 +2,7 @@
 -- Loops over rows, operations and names.
 pub mod Links
 pub mod Unions
+pub mod PositionSets
 pub mod Permissions
 pub mod Repeats
 pub mod Taking
@@ -13,7 +14,6 @@ pub mod Passing
 pub mod InUse
 pub mod SoundSets
 pub mod SoundOperations
-pub mod Holding
 pub mod Distinct
 pub mod FreshNames
 pub mod SoundNames
@@ -23,7 +23,6 @@ pub mod Determined
 pub mod Padding
 pub mod Spelled
 pub mod NameNumbers
-pub mod PositionSets
 pub mod Limits
 pub mod TableCells
 pub mod TablePermits

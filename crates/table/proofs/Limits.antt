@@ -11,12 +11,12 @@ use lib.ListN.{length}
 use Rattle.meaning.specs.Names.{Name}
 use Rattle.meaning.specs.Words.{Expr, names}
 use Rattle.meaning.specs.Operations.{distinct}
+use Rattle.meaning.proofs.OperationLaws.{distinct-member}
 use Rattle.text.specs.Tokens.{nextToken, isName, wellFormed}
 use Rattle.text.specs.declared.tokens.Token.{Token}
 use Rattle.text.specs.declared.tokens.Token.the-variants as T
 use Rattle.text.proofs.Reading.{name-reaches}
 use Rattle.table.specs.Promises.{Limited}
-use Rattle.table.proofs.NameNumbers.{distinct-member}
 
 -- a token that is a name has a number of bytes
 name-bytes : (t : Token) → isName t ≡ true → (m : ℕ) × (t ≡ T.Name m)

@@ -13,13 +13,14 @@ use lib.ListN.{length, getD}
 use Rattle.meaning.specs.Names.{Name, key}
 use Rattle.meaning.specs.Words.{Expr, names}
 use Rattle.meaning.specs.Operations.{distinct}
+use Rattle.meaning.proofs.OperationLaws.{key-held}
 use Rattle.meaning.proofs.SetLaws.{either-true}
 use Rattle.meaning.proofs.Numbering.{size-names}
 use Rattle.table.specs.declared.numbers.Operation.{Operation}
 use Rattle.table.specs.Marks.{among, noneTwice, markOf}
 use Rattle.table.specs.Rules.{operationsOf, tableOf}
 use Rattle.table.specs.Promises.{Mark-says}
-use Rattle.table.proofs.NameNumbers.{key-held, length-operations, operation-at, operation-is-key}
+use Rattle.table.proofs.NameNumbers.{length-operations, operation-at, operation-is-key}
 use Rattle.table.proofs.TableCells.{operations-in-use}
 
 module _ (z : Operation) where

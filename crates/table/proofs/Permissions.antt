@@ -1,49 +1,22 @@
--- Permission sets: an operation's is empty exactly if the operation stands nowhere; and one turn of a loop that gathers it from
--- the last place down, doubling what it has.
-use mathlib.Core.Path.{_≡_, refl, ap, _∙_}
-use mathlib.Core.Bool.{Bool, true, false, cond}
-use mathlib.Core.List.{List, [], _∷_}
-use mathlib.Core.Logic.{_≢_}
-use Prim.Native.Nat.{ℕ, zero, suc, _+_, _-_, _*_, _^_, _≤_, _<_, min}
-use native.Mathlib.Nat.{le-of-suc-le-suc, pow-suc}
+-- One turn of a loop that gathers a permission set from the last place down, doubling what it has.
+use mathlib.Core.Path.{_≡_, ap, _∙_}
+use mathlib.Core.Bool.{cond}
+use mathlib.Core.List.{List}
+use Prim.Native.Nat.{ℕ, suc, _+_, _-_, _*_, _^_, _≤_, _<_, min}
 use native.Mathlib.Omega.{arith}
-use borrow.Author.Tests.{eqb-true, eq-eqb}
 use lib.Dec.{eqb}
 use lib.ListN.{length, take, drop, getD, length-take, length-drop, drop-of-length-le}
 use lib.Pow.{pow-mono}
 use lib.Seq.{drop-cons, getD-take}
+use Rattle.meaning.proofs.SetLaws.{members-below}
 use Rattle.table.specs.declared.numbers.Operation.{Operation}
 use Rattle.table.specs.Following.{positionsWith}
+use Rattle.table.proofs.PositionSets.{in-positions-with}
 
--- one bit more, by a test
-bit-below : (t : Bool) (s k : ℕ) → s < 2 ^ k → cond t 1 0 + 2 * s < 2 ^ suc k
-bit-below true s k h = rw (pow-suc 2 k) (omega arith)
-bit-below false s k h = rw (pow-suc 2 k) (omega arith)
-
-pub permission-below : (os : List Operation) (o : ℕ) → positionsWith os o < 2 ^ length os
-unfolding positionsWith
-permission-below [] o = omega arith
-permission-below (x ∷ os) o = bit-below (eqb (x .0) o) (positionsWith os o) (length os) (permission-below os o)
-
--- the operation stands somewhere
-abbrev pub Stands : List Operation → ℕ → Type 0
-Stands os o = (p : ℕ) × (p < length os) × (getD os p (record { 0 = 0 }) .0 ≡ o)
-
-pub permission-stands : (os : List Operation) (o : ℕ) → positionsWith os o ≢ 0 → Stands os o
-unfolding positionsWith
-permission-stands [] o h = absurd (h refl)
-permission-stands (x ∷ os) o h = go (λ n. permission-stands os o n) (eqb (x .0) o) refl
-  where
-    go : (positionsWith os o ≢ 0 → Stands os o) → (t : Bool) → eqb (x .0) o ≡ t → Stands (x ∷ os) o
-    go rest true e = (0, omega arith, eqb-true (x .0) o e)
-    go rest false e = let s = rest (λ n. h (rw (e, n))) in (suc (s .0), omega arith, s .2)
-
-pub stands-permission : (os : List Operation) (o p : ℕ) → p < length os → getD os p (record { 0 = 0 }) .0 ≡ o
-    → positionsWith os o ≢ 0
-unfolding positionsWith
-stands-permission [] o p l e n = omega arith
-stands-permission (x ∷ os) o zero l e n = let odd = rw (eq-eqb (x .0) o e) at n in omega arith
-stands-permission (x ∷ os) o (suc p) l e n = stands-permission os o p (le-of-suc-le-suc l) e (omega arith)
+-- a set of places is below 2 ^ their number
+permission-below : (os : List Operation) (o : ℕ) → positionsWith os o < 2 ^ length os
+permission-below os o =
+    members-below (length os) (positionsWith os o) (λ p i. in-positions-with os (record { 0 = 0 }) o p .0 i .0)
 
 module _ (operations : List Operation) (positions o : ℕ) where
   abbrev in-use : List Operation

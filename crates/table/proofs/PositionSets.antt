@@ -1,6 +1,6 @@
 -- The set of the positions of an operation, bit by bit: bit p is in it exactly if the p-th operation of the list is the one asked for. Each
 -- operation of the list puts one digit before the set of the others.
-use mathlib.Core.Path.{_≡_, refl, sym}
+use mathlib.Core.Path.{_≡_}
 use mathlib.Core.Bool.{Bool, true, false, cond}
 use mathlib.Core.List.{List, [], _∷_}
 use mathlib.Core.Logic.{_↔_}
@@ -11,7 +11,7 @@ use borrow.Author.Tests.{eqb-true, eq-eqb}
 use lib.Dec.{eqb}
 use lib.ListN.{length, getD}
 use Rattle.meaning.specs.Sets.{mem, In}
-use Rattle.meaning.proofs.SetLaws.{none-in, same-members}
+use Rattle.meaning.proofs.SetLaws.{none-in}
 use Rattle.table.specs.declared.numbers.Operation.{Operation}
 use Rattle.table.specs.Following.{positionsWith}
 
@@ -36,12 +36,3 @@ in-positions-with (x ∷ os) z o (suc p) =
     let rest = in-positions-with os z o p in
     rw (mem-behind (eqb (x .0) o) (positionsWith os o) p)
     (λ h. (omega (arith, rest .0 h .0), rest .0 h .1), λ h. rest .1 (le-of-suc-le-suc (h .0), h .1))
-
--- sets whose members are the same are equal
-pub same-sets : (a b : ℕ) → ((p : ℕ) → In p a ↔ In p b) → a ≡ b
-same-sets a b e = same-members a b (λ p. go (mem p a) (mem p b) (e p))
-  where
-    go : (s t : Bool) → (s ≡ true) ↔ (t ≡ true) → s ≡ t
-    go true t h = sym (h .0 refl)
-    go false true h = h .1 refl
-    go false false h = refl

@@ -5,16 +5,17 @@ use mathlib.Core.List.{List}
 use mathlib.Core.Logic.{_↔_}
 use Prim.Native.Nat.{ℕ, _≤_, _<_}
 use native.Mathlib.Omega.{arith}
-use borrow.Author.Tests.{eqb-true, eqb-false, eq-eqb, ne-eqb, ltb-true, lt-ltb, not-true}
+use borrow.Author.Tests.{eqb-true, eq-eqb, ltb-true, lt-ltb}
 use lib.Dec.{eqb, ltb}
 use lib.ListN.{length, take, getD}
 use lib.Seq.{length-take-le, getD-take}
+use Rattle.meaning.proofs.SetLaws.{member, member-not-none, not-empty-says}
 use Rattle.table.specs.declared.numbers.Operation.{Operation}
 use Rattle.table.specs.Following.{positionsWith}
 use Rattle.table.specs.Tests.{operationsTest, placedTest, eachPlacedTest}
 use Rattle.table.proofs.InUse.{cells-say}
 use Rattle.table.proofs.Passing.{each-says, each-said}
-use Rattle.table.proofs.Permissions.{permission-stands, stands-permission}
+use Rattle.table.proofs.PositionSets.{in-positions-with}
 
 module _ (os : List Operation) (n names : ℕ) (all : length os ≡ 64) (few : n ≤ 64) where
   abbrev at : ℕ → ℕ
@@ -40,12 +41,14 @@ module _ (os : List Operation) (n names : ℕ) (all : length os ≡ 64) (few : n
 
   placed-says : (o : ℕ) → (placedTest os n o ≡ true) ↔ Placed o
   placed-says o =
-      let set = positionsWith (take n os) o in (
+      let set = positionsWith (take n os) o in
+      let stands = in-positions-with (take n os) (record { 0 = 0 }) o in (
         λ t.
-            let s = permission-stands (take n os) o (eqb-false set 0 (not-true (eqb set 0) t)) in
-            let h : s .0 < n = omega (arith, counted) in
-            (s .0, h, sym (at-in-use (s .0) h) ∙ s .2),
-        λ (p, h, e). rw (ne-eqb set 0 (stands-permission (take n os) o p (omega (arith, counted)) (at-in-use p h ∙ e))),
+            let (p, i) = member set (not-empty-says set .0 t) in
+            let (there, e) = stands p .0 i in
+            let h : p < n = omega (arith, counted) in
+            (p, h, sym (at-in-use p h) ∙ e),
+        λ (p, h, e). not-empty-says set .1 (member-not-none p set (stands p .1 (omega (arith, counted), at-in-use p h ∙ e))),
       )
 
   pub each-placed-says : (eachPlacedTest os n names ≡ true) ↔ ((o : ℕ) → o < names → Placed o)

@@ -28,10 +28,10 @@ spelled-in-front (d ∷ ds) ls bs short =
     rw (append-assoc (padded 16 0 d) (bytesOf ds) bs, first-spelled d (bytesOf ds ++ bs) fits, rest-behind d (bytesOf ds ++ bs) fits)
     (ap (λ (ns : List Name). d ∷ ns) (spelled-in-front ds ls bs (λ n m. short n (List·Memᴰ·tail m))))
 
-pub spelled-back : (ds : List Name) → length ds ≤ 32 → ((n : Name) → List·Memᴰ n ds → length n ≤ 16)
+pub spelled-back : (ds : List Name) → ((n : Name) → List·Memᴰ n ds → length n ≤ 16)
     → take (length ds) (spellings (padded 32 0 (map length ds)) (padded 512 0 (bytesOf ds))) ≡ ds
 unfolding padded
-spelled-back ds _ short =
+spelled-back ds short =
     spelled-in-front ds (replicate (32 - length (map length ds)) 0) (replicate (512 - length (bytesOf ds)) 0) short
 
 -- byte k of name i, and zeros behind its bytes

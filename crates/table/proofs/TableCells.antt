@@ -48,7 +48,7 @@ module _ (e : Expr) (limits : Limited e) where
 
   pub names-of-table : namesOf (tableOf e) ≡ distinct (names e)
   unfolding namesOf tableOf
-  names-of-table = spelled-back (distinct (names e)) (limits .names-few) (distinct-short e limits)
+  names-of-table = spelled-back (distinct (names e)) (distinct-short e limits)
 
   pub spelling-cell : (i : ℕ) → i < length (distinct (names e)) → spelling (tableOf e) i ≡ getD (distinct (names e)) i []
   unfolding namesOf tableOf

@@ -14,15 +14,16 @@ use Rattle.meaning.specs.Operations.{holds, distinct, numberOf}
 use Rattle.meaning.specs.Sets.{mem, In, unionOf}
 use Rattle.meaning.specs.Positions.{rows, start, permission}
 use Rattle.meaning.specs.Following.{permits}
-use Rattle.meaning.proofs.SetLaws.{none-in}
+use Rattle.meaning.proofs.OperationLaws.{key-held}
+use Rattle.meaning.proofs.SetLaws.{none-in, same-sets}
 use Rattle.meaning.proofs.Numbering.{numbered-from-the-left}
 use Rattle.meaning.proofs.Heart.{permits-begins}
 use Rattle.table.specs.Following.{positionsWith, permissionSet, foundIn, permissionFound, permissionOf, tablePermits}
 use Rattle.table.specs.declared.names.Found.the-variants.{At, Nowhere}
 use Rattle.table.specs.Rules.{padded, operationsOf, tableOf}
 use Rattle.table.specs.Promises.{Limited, Rules-table-permits}
-use Rattle.table.proofs.NameNumbers.{key-held, length-operations, operation-is-key}
-use Rattle.table.proofs.PositionSets.{in-positions-with, same-sets}
+use Rattle.table.proofs.NameNumbers.{length-operations, operation-is-key}
+use Rattle.table.proofs.PositionSets.{in-positions-with}
 use Rattle.table.proofs.TableCells.{operations-in-use, names-of-table}
 
 -- what is permitted depends on the unions of rows and on the permission sets only

@@ -10,9 +10,12 @@ use Rattle.meaning.specs.Names.{Name, key}
 use Rattle.meaning.specs.Words.{Expr, names}
 use Rattle.meaning.specs.Operations.{distinct, numberOf}
 use Rattle.meaning.specs.Positions.{size, rows, start}
+use Rattle.meaning.proofs.OperationLaws.{at-member, member-at, key-held, distinct-member}
+use Rattle.meaning.proofs.NumberLaws.{held-below, distinct-own-number}
 use Rattle.meaning.proofs.SetLaws.{member, in-below}
 use Rattle.meaning.proofs.Numbering.{size-names}
-use Rattle.meaning.proofs.Heart.{length-rows, row-at, row-not-empty, start-not-empty}
+use Rattle.meaning.proofs.RowLaws.{length-rows, row-at}
+use Rattle.meaning.proofs.Heart.{row-not-empty, start-not-empty}
 use Rattle.meaning.proofs.Fitting.{sets-fit}
 use Rattle.text.specs.Tokens.{wellFormed}
 use Rattle.table.specs.Cells.{operationAt, rowAt, lengthAt, byteAt}
@@ -20,7 +23,6 @@ use Rattle.table.specs.Marks.{markOf}
 use Rattle.table.specs.Soundness.{spelling, Fit}
 use Rattle.table.specs.Rules.{operationsOf, tableOf}
 use Rattle.table.specs.Promises.{Limited, Rules-table-sound}
-use Rattle.table.proofs.NameNumbers.{at-member, member-at, held-below, key-held, distinct-member, distinct-own-number}
 use Rattle.table.proofs.NameNumbers.{length-operations, operation-at}
 use Rattle.table.proofs.Limits.{distinct-short, distinct-well-formed}
 use Rattle.table.proofs.TableCells.{row-cell, operation-cell, length-cell, byte-cell, spelling-cell}

@@ -1,6 +1,6 @@
 -- One turn of a loop that unites row after row: the union is what the rows passed gave, joined with the union of the others.
 use mathlib.Core.Path.{_≡_, sym, _∙_}
-use mathlib.Core.Bool.{cond, or-assoc}
+use mathlib.Core.Bool.{cond}
 use mathlib.Core.List.{List}
 use Prim.Native.Nat.{ℕ, _+_, _<_, _≤_, _/_}
 use native.Mathlib.Numerals.{add-one}
@@ -9,14 +9,7 @@ use lib.Bits.{bitOr, or-zero-r}
 use lib.ListN.{length, drop, getD, drop-of-length-le}
 use lib.Seq.{drop-cons}
 use Rattle.meaning.specs.Sets.{mem, unionOf}
-use Rattle.meaning.proofs.SetLaws.{mem-union, same-members}
-
-union-assoc : (a b c : ℕ) → bitOr (bitOr a b) c ≡ bitOr a (bitOr b c)
-union-assoc a b c =
-    same-members (bitOr (bitOr a b) c) (bitOr a (bitOr b c))
-    (λ p.
-    rw (mem-union p (bitOr a b) c, mem-union p a b, mem-union p a (bitOr b c), mem-union p b c)
-    (or-assoc (mem p a) (mem p b) (mem p c)))
+use Rattle.meaning.proofs.SetLaws.{union-assoc}
 
 -- what the loop keeps: `whole` is the union of all rows, `out` that of the p rows passed, `rest` is left of the set
 abbrev pub Uniting : List ℕ → ℕ → ℕ → ℕ → ℕ → Type 0

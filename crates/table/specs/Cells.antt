@@ -3,7 +3,6 @@ use mathlib.Core.List.{List, [], _∷_}
 use Prim.Native.Nat.{ℕ}
 use lib.ListN.{getD, replicate, take, drop}
 use Rattle.meaning.specs.Names.{Name}
-use Rattle.table.specs.declared.numbers.Operation.{Operation}
 use Rattle.table.specs.declared.cells.Table.{Table}
 
 -- "the table of zeros"

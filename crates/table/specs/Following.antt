@@ -1,5 +1,5 @@
 -- Following a table: permission sets, and the histories that it permits.
-use mathlib.Core.Bool.{Bool, true, false, cond, not}
+use mathlib.Core.Bool.{Bool, cond, not}
 use mathlib.Core.List.{List, [], _∷_}
 use Prim.Native.Nat.{ℕ, _+_, _*_}
 use lib.Bits.{bitAnd}

@@ -1,5 +1,5 @@
 -- Building sets and rows.
-use mathlib.Core.Bool.{Bool, cond, _&&_}
+use mathlib.Core.Bool.{cond, _&&_}
 use mathlib.Core.List.{List, [], _∷_}
 use Prim.Native.Nat.{ℕ, _-_, _^_, _/_}
 use lib.Bits.{bitOr}

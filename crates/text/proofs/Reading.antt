@@ -30,28 +30,27 @@ Takes m TextEnd = ⊥
 Takes m Bad = Unit {0}
 Takes m Long = Unit {0}
 
-sign-by : (a b d e f : Bool) → Takes 1 (cond a Semicolon (cond b Plus (cond d Star (cond e Open (cond f Close Bad)))))
-sign-by true b d e f = tt
-sign-by false true d e f = tt
-sign-by false false true e f = tt
-sign-by false false false true f = tt
-sign-by false false false false true = tt
-sign-by false false false false false = tt
+-- a choice by a test has what both its sides have, each where the test says so
+choice-has : {A : Type 0} (P : A → Type 0) (t : Bool) {x y : A} → (t ≡ true → P x) → (t ≡ false → P y) → P (cond t x y)
+choice-has P true f g = f refl
+choice-has P false f g = g refl
 
-sign-takes : (c : ℕ) → Takes 1 (signToken c)
+-- a sign is one of five, or none
+pub sign-has : (P : Token → Type 0) → P Semicolon → P Plus → P Star → P Open → P Close → P Bad → (c : ℕ) → P (signToken c)
 unfolding signToken
-sign-takes c = sign-by (eqb c semicolon) (eqb c plus) (eqb c asterisk) (eqb c opening) (eqb c closing)
-
-word-by : (a b t : Bool) (m : ℕ) → (t ≡ false → m ≤ 16) → Takes m (cond a Path (cond b End (cond t Long (Name m))))
-word-by true b t m h = tt
-word-by false true t m h = tt
-word-by false false true m h = tt
-word-by false false false m h = (refl, h refl)
+sign-has P a b d e f g c =
+    choice-has P (eqb c semicolon) (λ _. a) λ _.
+    choice-has P (eqb c plus) (λ _. b) λ _.
+    choice-has P (eqb c asterisk) (λ _. d) λ _.
+    choice-has P (eqb c opening) (λ _. e) λ _.
+    choice-has P (eqb c closing) (λ _. f) (λ _. g)
 
 word-takes : (w : List ℕ) → Takes (length w) (wordToken w)
 unfolding wordToken
 word-takes w =
-    word-by (sameName w pathWord) (sameName w endWord) (ltb 16 (length w)) (length w) (ltb-false 16 (length w))
+    choice-has (Takes (length w)) (sameName w pathWord) (λ _. tt) λ _.
+    choice-has (Takes (length w)) (sameName w endWord) (λ _. tt) λ _.
+    choice-has (Takes (length w)) (ltb 16 (length w)) (λ _. tt) (λ short. (refl, ltb-false 16 (length w) short))
 
 -- a token behind k blanks that takes some of the bytes left
 record Moved (k : ℕ) (left : List ℕ) (r : Read) : Type 0 where
@@ -61,11 +60,6 @@ record Moved (k : ℕ) (left : List ℕ) (r : Read) : Type 0 where
   place : r .start ≡ k
   reach : r .used ≡ k + bytes
   takes : Takes bytes (r .token)
-
--- a choice by a test has what both its sides have, each where the test says so
-choice-has : {A : Type 0} (P : A → Type 0) (t : Bool) {x y : A} → (t ≡ true → P x) → (t ≡ false → P y) → P (cond t x y)
-choice-has P true f g = f refl
-choice-has P false f g = g refl
 
 letter-counts : (b : ℕ) (s : List ℕ) → eqb (classOf b) letter ≡ true → 1 ≤ span nameByte (b ∷ s)
 letter-counts b s e =
@@ -87,7 +81,7 @@ from-moved k b s =
       reach = refl;
       takes = rw (length-take-le n (b ∷ s) fits) at (word-takes (take n (b ∷ s)));
     })
-    (λ e. record { bytes = 1; some = omega arith; within = omega arith; place = refl; reach = refl; takes = sign-takes (classOf b) })
+    (λ e. record { bytes = 1; some = omega arith; within = omega arith; place = refl; reach = refl; takes = sign-has (Takes 1) tt tt tt tt tt tt (classOf b) })
 
 -- what it means that a token read is a name of n bytes
 pub record Named (r : Read) (n : ℕ) : Type 0 where

@@ -9,12 +9,12 @@ use borrow.Author.Tests.{eqb-true, eq-eqb}
 use lib.Dec.{eqb}
 use lib.ListN.{length, take, drop}
 use lib.Seq.{length-take-le, take-length}
-use Rattle.text.specs.Classes.{letter, semicolon, plus, asterisk, opening, closing, classOf}
+use Rattle.text.specs.Classes.{letter, classOf}
 use Rattle.text.specs.Tokens.{span, blankByte, nameByte, wordToken, signToken, tokenFrom, nextToken, isName, wellFormed}
-use Rattle.text.specs.declared.tokens.Token.the-variants.{Semicolon, Plus, Star, Open, Close, Name, Bad}
+use Rattle.text.specs.declared.tokens.Token.the-variants.{Name}
 use Rattle.text.proofs.Spans.{span-counts, span-ends, span-within}
 use Rattle.text.proofs.Ways.{way-word}
-use Rattle.text.proofs.Reading.{start-is-blanks, name-reaches}
+use Rattle.text.proofs.Reading.{sign-has, start-is-blanks, name-reaches}
 
 -- a run is a run of its own bytes
 span-of-run : (test : ℕ → Bool) (s : List ℕ) → span test (take (span test s) s) ≡ span test s
@@ -27,17 +27,8 @@ span-of-run test (b ∷ s) = go (test b) refl (span-of-run test s)
     go true e rest = rw e (ap suc rest)
     go false e rest = refl
 
-sign-by : (a b d e f : Bool) → isName (cond a Semicolon (cond b Plus (cond d Star (cond e Open (cond f Close Bad))))) ≡ false
-sign-by true b d e f = refl
-sign-by false true d e f = refl
-sign-by false false true e f = refl
-sign-by false false false true f = refl
-sign-by false false false false true = refl
-sign-by false false false false false = refl
-
 sign-no-name : (c : ℕ) → isName (signToken c) ≡ false
-unfolding signToken
-sign-no-name c = sign-by (eqb c semicolon) (eqb c plus) (eqb c asterisk) (eqb c opening) (eqb c closing)
+sign-no-name = sign-has (λ t. isName t ≡ false) refl refl refl refl refl refl
 
 -- a word that stands alone: a letter, and bytes of a name
 word-alone : (b : ℕ) (r : List ℕ) (n : ℕ) → classOf b ≡ letter → span nameByte r ≡ length r → wordToken (b ∷ r) ≡ Name n

@@ -5,11 +5,6 @@ use Rattle.compiler.proofs.Arms.{not-close}
 use Rattle.compiler.proofs.Closing.{used-behind, start-behind, closed-closes, closed-halts}
 use Rattle.compiler.proofs.readers.close.Statement.{statement}
 use Rattle.compiler.proofs.readers.close.Tie as tie
-use Rattle.compiler.proofs.readers.close.Reads as reads
-use Rattle.compiler.proofs.readers.close.Lts as lts
-use Rattle.compiler.proofs.readers.halt.Reads as halt-reads
-use Rattle.compiler.proofs.readers.number_of.Reads as number-of-reads
-use Rattle.text.proofs.tokens.next.Reads as next-reads
 
 -- src/readers.rt:176:9
 returns : tie.Need-returns

@@ -9,14 +9,6 @@ use Rattle.compiler.proofs.FactorPaths.{used-fits, inside-fits}
 use Rattle.compiler.proofs.Wholes.{compile-long, compile-not-path, starts-with-path}
 use Rattle.compiler.proofs.readers.compile.Statement.{statement}
 use Rattle.compiler.proofs.readers.compile.Tie as tie
-use Rattle.compiler.proofs.readers.compile.Reads as reads
-use Rattle.compiler.proofs.readers.compile.Lts as lts
-use Rattle.compiler.proofs.readers.end.Reads as end-reads
-use Rattle.compiler.proofs.readers.expression.Reads as expression-reads
-use Rattle.compiler.proofs.readers.number_of.Reads as number-of-reads
-use Rattle.compiler.proofs.readers.refuse.Reads as refuse-reads
-use Rattle.table.proofs.cells.no_table.Reads as no-table-reads
-use Rattle.text.proofs.tokens.next.Reads as next-reads
 
 -- src/readers.rt:364:9
 refuse-requires : tie.Need-refuse-requires

@@ -5,12 +5,6 @@ use Rattle.compiler.proofs.Concluding.{concluded-accepts, concluded-ref
 use Rattle.compiler.proofs.FactorPaths.{start-fits}
 use Rattle.compiler.proofs.readers.conclude.Statement.{statement}
 use Rattle.compiler.proofs.readers.conclude.Tie as tie
-use Rattle.compiler.proofs.readers.conclude.Reads as reads
-use Rattle.compiler.proofs.readers.conclude.Lts as lts
-use Rattle.compiler.proofs.readers.number_of.Reads as number-of-reads
-use Rattle.compiler.proofs.readers.refuse.Reads as refuse-reads
-use Rattle.parts.proofs.joining.complete.Reads as complete-reads
-use Rattle.text.proofs.tokens.next.Reads as next-reads
 
 -- src/readers.rt:317:9
 next-requires : tie.Need-next-requires

@@ -4,12 +4,6 @@ use Rattle.compiler.proofs.Arms.{not-end}
 use Rattle.compiler.proofs.Concluding.{ended-inside, ended-ends, ended-refuses, end-fits, end-starts, rest-fits}
 use Rattle.compiler.proofs.readers.end.Statement.{statement}
 use Rattle.compiler.proofs.readers.end.Tie as tie
-use Rattle.compiler.proofs.readers.end.Reads as reads
-use Rattle.compiler.proofs.readers.end.Lts as lts
-use Rattle.compiler.proofs.readers.conclude.Reads as conclude-reads
-use Rattle.compiler.proofs.readers.number_of.Reads as number-of-reads
-use Rattle.compiler.proofs.readers.refuse.Reads as refuse-reads
-use Rattle.text.proofs.tokens.next.Reads as next-reads
 
 -- src/readers.rt:337:13
 sub-k : tie.Need-sub-k

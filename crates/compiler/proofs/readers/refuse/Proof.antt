@@ -1,9 +1,6 @@
 use borrow.Author.Needs.{needs}
 use Rattle.compiler.proofs.readers.refuse.Statement.{statement}
 use Rattle.compiler.proofs.readers.refuse.Tie as tie
-use Rattle.compiler.proofs.readers.refuse.Reads as reads
-use Rattle.compiler.proofs.readers.refuse.Lts as lts
-use Rattle.table.proofs.cells.no_table.Reads as no-table-reads
 
 -- src/readers.rt:302:9
 no-table-requires : tie.Need-no-table-requires

@@ -2,10 +2,6 @@ use borrow.Author.Needs.{needs}
 use Rattle.compiler.proofs.Starry.{starry-refused, starry-plain, starry-starred, stars-fit}
 use Rattle.compiler.proofs.readers.starry.Statement.{statement}
 use Rattle.compiler.proofs.readers.starry.Tie as tie
-use Rattle.compiler.proofs.readers.starry.Reads as reads
-use Rattle.compiler.proofs.readers.starry.Lts as lts
-use Rattle.compiler.proofs.readers.stars.Reads as stars-reads
-use Rattle.parts.proofs.joining.star_part.Reads as star-part-reads
 
 -- src/readers.rt:153:9
 returns : tie.Need-returns

@@ -1,17 +1,12 @@
 -- `readers::stars` meets its contract. The invariant: some stars were read, and the machine has gone on over them (`Stars-so-far`).
-use mathlib.Core.Path.{_≡_, refl, sym, ap, subst, _∙_}
-use Prim.Native.Nat.{ℕ, _-_}
+use Prim.Native.Nat.{_-_}
 use native.Mathlib.Omega.{arith}
 use borrow.Author.Needs.{needs}
 use lib.ListN.{length}
-use Rattle.text.specs.declared.tokens.Read.{Read}
 use Rattle.compiler.proofs.Arms.{not-star}
 use Rattle.compiler.proofs.Stars.{Stars-so-far, no-stars-yet, star-fits, star-is-some, star-more, stars-end}
 use Rattle.compiler.proofs.readers.stars.Statement.{statement}
 use Rattle.compiler.proofs.readers.stars.Tie as tie
-use Rattle.compiler.proofs.readers.stars.Reads as reads
-use Rattle.compiler.proofs.readers.stars.Lts as lts
-use Rattle.text.proofs.tokens.next.Reads as next-reads
 
 abbrev Inv-loop : tie.InvT-loop
 Inv-loop s any₀ used₀ any used = Stars-so-far s any used

@@ -2,10 +2,6 @@ use borrow.Author.Needs.{needs}
 use Rattle.parts.specs.Parts.{completed}
 use Rattle.parts.proofs.joining.complete.Statement.{statement}
 use Rattle.parts.proofs.joining.complete.Tie as tie
-use Rattle.parts.proofs.joining.complete.Reads as reads
-use Rattle.parts.proofs.joining.complete.Lts as lts
-use Rattle.parts.proofs.joining.follow.Reads as follow-reads
-use Rattle.table.proofs.marks.mark_of.Reads as mark-of-reads
 
 -- src/joining.rt:105:9
 follow-requires : tie.Need-follow-requires

@@ -1,9 +1,6 @@
 use borrow.Author.Needs.{needs}
 use Rattle.parts.proofs.joining.either_part.Statement.{statement}
 use Rattle.parts.proofs.joining.either_part.Tie as tie
-use Rattle.parts.proofs.joining.either_part.Reads as reads
-use Rattle.parts.proofs.joining.either_part.Lts as lts
-use Rattle.parts.proofs.joining.any.Reads as any-reads
 
 -- src/joining.rt:64:16
 any-requires : tie.Need-any-requires

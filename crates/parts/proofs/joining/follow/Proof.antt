@@ -1,9 +1,6 @@
 use borrow.Author.Needs.{needs}
 use Rattle.parts.proofs.joining.follow.Statement.{statement}
 use Rattle.parts.proofs.joining.follow.Tie as tie
-use Rattle.parts.proofs.joining.follow.Reads as reads
-use Rattle.parts.proofs.joining.follow.Lts as lts
-use Rattle.table.proofs.sets.link.Reads as link-reads
 
 -- src/joining.rt:42:9
 link-requires : tie.Need-link-requires

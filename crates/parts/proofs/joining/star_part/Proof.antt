@@ -1,9 +1,6 @@
 use borrow.Author.Needs.{needs}
 use Rattle.parts.proofs.joining.star_part.Statement.{statement}
 use Rattle.parts.proofs.joining.star_part.Tie as tie
-use Rattle.parts.proofs.joining.star_part.Reads as reads
-use Rattle.parts.proofs.joining.star_part.Lts as lts
-use Rattle.parts.proofs.joining.follow.Reads as follow-reads
 
 -- src/joining.rt:90:9
 follow-requires : tie.Need-follow-requires

@@ -1,11 +1,6 @@
 use borrow.Author.Needs.{needs}
 use Rattle.parts.proofs.joining.then_part.Statement.{statement}
 use Rattle.parts.proofs.joining.then_part.Tie as tie
-use Rattle.parts.proofs.joining.then_part.Reads as reads
-use Rattle.parts.proofs.joining.then_part.Lts as lts
-use Rattle.parts.proofs.joining.both.Reads as both-reads
-use Rattle.parts.proofs.joining.choose.Reads as choose-reads
-use Rattle.parts.proofs.joining.follow.Reads as follow-reads
 
 -- src/joining.rt:76:9
 follow-requires : tie.Need-follow-requires

@@ -2,12 +2,6 @@ use borrow.Author.Needs.{needs}
 use Rattle.parts.proofs.PlacePaths.{placed-long, placed-full, placed-known, placed-one-too-many, placed-new}
 use Rattle.parts.proofs.placing.place.Statement.{statement}
 use Rattle.parts.proofs.placing.place.Tie as tie
-use Rattle.parts.proofs.placing.place.Reads as reads
-use Rattle.parts.proofs.placing.place.Lts as lts
-use Rattle.parts.proofs.placing.refuse.Reads as refuse-reads
-use Rattle.parts.proofs.placing.with_name.Reads as with-name-reads
-use Rattle.parts.proofs.placing.with_position.Reads as with-position-reads
-use Rattle.table.proofs.names.find.Reads as find-reads
 
 -- src/placing.rt:99:9
 refuse-requires : tie.Need-refuse-requires

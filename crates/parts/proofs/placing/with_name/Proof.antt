@@ -1,9 +1,6 @@
 use borrow.Author.Needs.{needs}
 use Rattle.parts.proofs.placing.with_name.Statement.{statement}
 use Rattle.parts.proofs.placing.with_name.Tie as tie
-use Rattle.parts.proofs.placing.with_name.Reads as reads
-use Rattle.parts.proofs.placing.with_name.Lts as lts
-use Rattle.parts.proofs.placing.write.Reads as write-reads
 
 -- src/placing.rt:56:28
 mul-write : tie.Need-mul-write

@@ -1,9 +1,6 @@
 use borrow.Author.Needs.{needs}
 use Rattle.parts.proofs.placing.with_position.Statement.{statement}
 use Rattle.parts.proofs.placing.with_position.Tie as tie
-use Rattle.parts.proofs.placing.with_position.Reads as reads
-use Rattle.parts.proofs.placing.with_position.Lts as lts
-use Rattle.table.proofs.sets.set_of.Reads as set-of-reads
 
 -- src/placing.rt:80:5
 element-set-from-o : tie.Need-element-set-from-o

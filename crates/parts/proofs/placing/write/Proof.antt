@@ -10,8 +10,6 @@ use lib.Seq.{paste, paste-zero, paste-suc, take-length}
 use Rattle.parts.specs.Parts.{written}
 use Rattle.parts.proofs.placing.write.Statement.{statement}
 use Rattle.parts.proofs.placing.write.Tie as tie
-use Rattle.parts.proofs.placing.write.Reads as reads
-use Rattle.parts.proofs.placing.write.Lts as lts
 
 abbrev Inv-loop : tie.InvT-loop
 Inv-loop at name out₀ i₀ out i = (length out₀ ≡ 512) × (i ≤ length name) × (out ≡ paste out₀ at name i)
