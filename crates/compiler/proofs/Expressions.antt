@@ -1,5 +1,5 @@
 -- The reader of expressions, turn by turn: it starts with a sequence, grows by each that follows a `+`, and ends where no `+` does.
-use mathlib.Core.Path.{_≡_, refl, sym, ap, subst, _∙_}
+use mathlib.Core.Path.{_≡_, sym, ap, subst, _∙_}
 use mathlib.Core.List.{List, _++_}
 use mathlib.Core.Logic.{inl, inr}
 use mathlib.Core.Option.{Option, some, none}

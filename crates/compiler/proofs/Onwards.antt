@@ -1,7 +1,7 @@
 -- Whether a sequence or a sum goes on behind what was read: where the next factor or sequence starts, the machine has come to, and
 -- where there is none, the token behind it ends the sequence or the expression.
 use mathlib.Core.Path.{_≡_, refl, sym, ap, _∙_}
-use mathlib.Core.Bool.{Bool, true, false}
+use mathlib.Core.Bool.{true}
 use mathlib.Core.List.{List}
 use Prim.Native.Nat.{ℕ, _+_, _-_, _≤_}
 use native.Mathlib.Omega.{arith}
@@ -21,8 +21,8 @@ use Rattle.compiler.specs.declared.readers.Onward.{Onward}
 use Rattle.compiler.specs.declared.readers.Onward.the-variants.{At, Ends}
 use Rattle.compiler.specs.declared.readers.Reading.{Reading}
 use Rattle.compiler.proofs.Tails.{slice, slice-drops, slice-size}
-use Rattle.compiler.proofs.Endings.{ending, ending-size, ending-tail, behind-fits}
-use Rattle.compiler.proofs.Verdicts.{is-semicolon, is-plus, is-opening, is-name, verdict-symbol}
+use Rattle.compiler.proofs.Endings.{behind-fits, behind-symbol}
+use Rattle.compiler.proofs.Verdicts.{is-semicolon, is-plus, is-opening, is-name}
 
 -- behind the reading q of s the machine goes on at byte j, from a factor that has ended to one that has to come
 pub record Goes-on (turn : Left → Expr → Left) (s : List ℕ) (q : Reading) (j : ℕ) : Type 0 where
@@ -46,82 +46,57 @@ never-ends : {X : Type 0} (j : ℕ) → At j ≡ Ends → X
 never-ends j e = let never = ap goes-where e in absurd (omega arith)
 
 module _ (s : List ℕ) (q : Reading) (w : q .left ≤ length s) where
-  at : List ℕ
-  at = ending s q w
-
-  size-at : length at ≡ q .left
-  unfolding at
-  size-at = ending-size s q w
-
-  k : ℕ
-  k = length s - q .left
-
-  used : ℕ
-  used = behind s q .used
-
-  -- behind a sign that the machine turns at
-  rest-behind : length at - used ≡ length s - (k + used)
-  unfolding k used
-  rest-behind = omega (arith, size-at, w, behind-fits s q w)
-
-  over-semicolon : behind s q .token ≡ Semicolon → (j : ℕ) → j ≡ k + used → Goes-on onward s q j
-  unfolding at k used ending stepTo haveStep depthOf limitAt namesOn stepped limited
-  over-semicolon e j is =
+  -- the machine turns over a sign, and goes on behind it
+  over : (turn : Left → Expr → Left)
+      → ((text : List ℕ) → Tail text s → (l : Left) (f : Expr) (ks : List Left) (ns : List Name)
+      → verdict text (q .left) (having l f ks) ns ≡ verdict text (q .left - behind s q .used) (wanting (turn l f) ks) ns)
+      → (j : ℕ) → j ≡ length s - q .left + behind s q .used → Goes-on turn s q j
+  over turn step j is =
+      let fits = behind-fits s q w in
+      let rest : q .left - behind s q .used ≡ length s - j = omega arith in
       record {
-        fits = omega (arith, is, w, behind-fits s q w);
-        less = omega (arith, is, w);
-        on = λ text h l f ks ns.
-            ap (λ (i : ℕ). verdict text i (having l f ks) ns) (sym size-at)
-            ∙ verdict-symbol text at (ending-tail s q w text h) Semicolon semicolon e (is-semicolon _) (having l f ks) ns
-            ∙ ap (λ (i : ℕ). verdict text i (wanting (onward l f) ks) ns) (rest-behind ∙ ap (λ (i : ℕ). length s - i) (sym is));
+        fits = omega arith;
+        less = omega arith;
+        on = λ text h l f ks ns. step text h l f ks ns ∙ ap (λ (i : ℕ). verdict text i (wanting (turn l f) ks) ns) rest;
       }
 
-  over-plus : behind s q .token ≡ Plus → (j : ℕ) → j ≡ k + used → Goes-on upward s q j
-  unfolding at k used ending stepTo haveStep depthOf limitAt namesOn stepped limited
-  over-plus e j is =
-      record {
-        fits = omega (arith, is, w, behind-fits s q w);
-        less = omega (arith, is, w);
-        on = λ text h l f ks ns.
-            ap (λ (i : ℕ). verdict text i (having l f ks) ns) (sym size-at)
-            ∙ verdict-symbol text at (ending-tail s q w text h) Plus plus e (is-plus _) (having l f ks) ns
-            ∙ ap (λ (i : ℕ). verdict text i (wanting (upward l f) ks) ns) (rest-behind ∙ ap (λ (i : ℕ). length s - i) (sym is));
-      }
+  over-semicolon : behind s q .token ≡ Semicolon → (j : ℕ) → j ≡ length s - q .left + behind s q .used → Goes-on onward s q j
+  unfolding stepTo haveStep depthOf limitAt namesOn stepped limited
+  over-semicolon e =
+      over onward λ text h l f ks ns. behind-symbol s q w text h (having l f ks) ns Semicolon semicolon e (is-semicolon _)
+
+  over-plus : behind s q .token ≡ Plus → (j : ℕ) → j ≡ length s - q .left + behind s q .used → Goes-on upward s q j
+  unfolding stepTo haveStep depthOf limitAt namesOn stepped limited
+  over-plus e = over upward λ text h l f ks ns. behind-symbol s q w text h (having l f ks) ns Plus plus e (is-plus _)
 
   -- the next factor follows at once: the machine does the same from both states
   at-once : ((text : List ℕ) → Tail text s → (l : Left) (f : Expr) (ks : List Left) (ns : List Name)
-      → verdict text (length at) (having l f ks) ns ≡ verdict text (length at) (wanting (onward l f) ks) ns)
-      → (j : ℕ) → j ≡ k → Goes-on onward s q j
-  unfolding k
+      → verdict text (q .left) (having l f ks) ns ≡ verdict text (q .left) (wanting (onward l f) ks) ns)
+      → (j : ℕ) → j ≡ length s - q .left → Goes-on onward s q j
   at-once same j is =
+      let rest : q .left ≡ length s - j = omega arith in
       record {
-        fits = omega (arith, is);
-        less = omega (arith, is, w);
-        on = λ text h l f ks ns.
-            let back : length at ≡ length s - j = omega (arith, size-at, is, w) in
-            ap (λ (i : ℕ). verdict text i (having l f ks) ns) (sym size-at) ∙ same text h l f ks ns
-            ∙ ap (λ (i : ℕ). verdict text i (wanting (onward l f) ks) ns) back;
+        fits = omega arith;
+        less = omega arith;
+        on = λ text h l f ks ns. same text h l f ks ns ∙ ap (λ (i : ℕ). verdict text i (wanting (onward l f) ks) ns) rest;
       }
 
-  before-name : (m : ℕ) → behind s q .token ≡ Named m → (j : ℕ) → j ≡ k → Goes-on onward s q j
-  unfolding at ending stepTo haveStep wantStep depthOf limitAt namesOn stepped
+  before-name : (m : ℕ) → behind s q .token ≡ Named m → (j : ℕ) → j ≡ length s - q .left → Goes-on onward s q j
+  unfolding stepTo haveStep wantStep depthOf limitAt namesOn stepped
   before-name m e =
       at-once λ text h l f ks ns.
-      let tail = ending-tail s q w text h in
-      verdict-symbol text at tail (Named m) (name _) e (is-name m _) (having l f ks) ns
-      ∙ sym (verdict-symbol text at tail (Named m) (name _) e (is-name m _) (wanting (onward l f) ks) ns)
+      behind-symbol s q w text h (having l f ks) ns (Named m) (name _) e (is-name m _)
+      ∙ sym (behind-symbol s q w text h (wanting (onward l f) ks) ns (Named m) (name _) e (is-name m _))
 
-  before-open : behind s q .token ≡ Open → (j : ℕ) → j ≡ k → Goes-on onward s q j
-  unfolding at ending stepTo haveStep wantStep depthOf limitAt namesOn stepped
+  before-open : behind s q .token ≡ Open → (j : ℕ) → j ≡ length s - q .left → Goes-on onward s q j
+  unfolding stepTo haveStep wantStep depthOf limitAt namesOn stepped
   before-open e =
       at-once λ text h l f ks ns.
-      let tail = ending-tail s q w text h in
-      verdict-symbol text at tail Open opening e (is-opening _) (having l f ks) ns
-      ∙ sym (verdict-symbol text at tail Open opening e (is-opening _) (wanting (onward l f) ks) ns)
+      behind-symbol s q w text h (having l f ks) ns Open opening e (is-opening _)
+      ∙ sym (behind-symbol s q w text h (wanting (onward l f) ks) ns Open opening e (is-opening _))
 
   -- where the program finds another factor, or another sequence
   pub factor-follows : (j : ℕ) → factorFrom s (q .left) ≡ At j → Goes-on onward s q j
-  unfolding k used
   factor-follows j = by (behind s q .token) refl
     where
       by : (T : Token) → behind s q .token ≡ T → factorBy T (length s - q .left) (behind s q .used) ≡ At j → Goes-on onward s q j
@@ -138,7 +113,6 @@ module _ (s : List ℕ) (q : Reading) (w : q .left ≤ length s) where
       by Long is e = never-on j e
 
   pub sequence-follows : (j : ℕ) → sequenceFrom s (q .left) ≡ At j → Goes-on upward s q j
-  unfolding k used
   sequence-follows j = by (behind s q .token) refl
     where
       by : (T : Token) → behind s q .token ≡ T → sequenceBy T (length s - q .left) (behind s q .used) ≡ At j → Goes-on upward s q j

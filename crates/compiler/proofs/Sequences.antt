@@ -1,6 +1,6 @@
 -- The reader of sequences, turn by turn: it starts with a factor, grows by each factor that follows, and ends where none does.
-use mathlib.Core.Path.{_≡_, refl, sym, ap, ap₂, subst, _∙_}
-use mathlib.Core.Bool.{Bool, true}
+use mathlib.Core.Path.{_≡_, sym, ap, subst, _∙_}
+use mathlib.Core.Bool.{Bool}
 use mathlib.Core.List.{List, _++_}
 use mathlib.Core.Logic.{inl, inr}
 use mathlib.Core.Option.{Option, some, none}
@@ -14,14 +14,14 @@ use Rattle.text.specs.declared.tokens.Read.{Read}
 use Rattle.grammar.specs.Machine.{Left, onward, thenAfter}
 use Rattle.grammar.specs.Machine.State.{wanting, having}
 use Rattle.table.specs.declared.cells.Table.{Table}
-use Rattle.parts.specs.Progress.{noted, Fine, partOf, rowsAfter}
+use Rattle.parts.specs.Progress.{noted, Fine, rowsAfter}
 use Rattle.compiler.specs.Reading.{Tail, Goes, Stops, FactorRead, SequenceRead, Part-read, Either-way, onSum, thenRead, verdict, behind, factorFrom, endsFactor, endsSequence}
-use Rattle.compiler.specs.declared.readers.Onward.the-variants.{At, Ends}
+use Rattle.compiler.specs.declared.readers.Onward.the-variants.{Ends}
 use Rattle.compiler.specs.declared.readers.Reading.{Reading}
 use Rattle.compiler.proofs.Tails.{slice, slice-drops, tail-drop}
 use Rattle.compiler.proofs.Endings.{behind-part}
 use Rattle.compiler.proofs.Joining.{names-then, table-so-far, then-joined}
-use Rattle.compiler.proofs.Onwards.{Goes-on, factor-follows, no-factor-follows}
+use Rattle.compiler.proofs.Onwards.{Goes-on, no-factor-follows}
 
 module _ (s : List ℕ) (d : ℕ) (t : Table) where
   -- a factor is a sequence

@@ -20,22 +20,22 @@ use text::tokens::Token;
 use text::tokens::next;
 
 // A part, with `left` bytes unread behind it; or, where the number is not 0, a refusal with `left` bytes from its place on.
-pub struct Reading {
-    pub number: u8,
-    pub left: usize,
-    pub part: Part,
+struct Reading {
+    number: u8,
+    left: usize,
+    part: Part,
 }
 
 // Whether a sequence or a sum goes on, and at which byte.
-pub enum Onward {
+enum Onward {
     At(usize),
     Ends,
 }
 
 // Whether any `*` was read, and how many bytes were used up by them.
-pub struct Starring {
-    pub any: bool,
-    pub used: usize,
+struct Starring {
+    any: bool,
+    used: usize,
 }
 
 // The number by which a token is refused where it does not fit.
@@ -173,13 +173,13 @@ fn starry(s: &[u8], p: Reading) -> Reading
     }
     let left = p.left;
     let k = s.len() - left;
-    let stars = stars(&s[k..]);
-    if stars.any {
+    let starring = stars(&s[k..]);
+    if starring.any {
         let plain = p.part;
         let part = star_part(plain);
         return Reading {
             number: 0,
-            left: left - stars.used,
+            left: left - starring.used,
             part: part,
         };
     }

@@ -5,7 +5,7 @@ use mathlib.Core.List.{List}
 use Prim.Native.Nat.{ℕ}
 use Rattle.table.specs.declared.cells.Table.{Table}
 use Rattle.text.proofs.Determined.{both-equal}
-use Rattle.parts.specs.Parts.{either, then, starred, completed, refusal, placed}
+use Rattle.parts.specs.Parts.{either, then, starred, completed, placed}
 use Rattle.parts.specs.declared.joining.Part.{Part}
 use Rattle.parts.specs.declared.placing.Placed.{Placed}
 
@@ -20,9 +20,6 @@ star-part-determined p q q′ = both-equal
 
 pub complete-determined : (p : Part) (r r′ : Table) → r ≡ completed p → r′ ≡ completed p → r ≡ r′
 complete-determined p r r′ = both-equal
-
-pub refuse-determined : (n : ℕ) (t : Table) (r r′ : Placed) → r ≡ refusal n t → r′ ≡ refusal n t → r ≡ r′
-refuse-determined n t r r′ = both-equal
 
 pub place-determined : (t : Table) (n : List ℕ) (r r′ : Placed) → r ≡ placed t n → r′ ≡ placed t n → r ≡ r′
 place-determined t n r r′ = both-equal

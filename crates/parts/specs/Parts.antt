@@ -13,7 +13,7 @@ use Rattle.table.specs.declared.names.Found.the-variants.{At, Nowhere}
 use Rattle.table.specs.Cells.{namesOf}
 use Rattle.table.specs.Following.{foundIn}
 use Rattle.table.specs.Linking.{single, linked}
-use Rattle.table.specs.Marks.{markOf}
+use Rattle.table.specs.Rules.{marked}
 use Rattle.parts.specs.declared.joining.Part.{Part}
 use Rattle.parts.specs.declared.placing.Placed.{Placed}
 
@@ -73,17 +73,7 @@ started t s =
 
 unfoldable pub completed : Part → Table
 completed p =
-    let t = started (followed (p .table) (p .last) (p .first)) (p .first) in
-    record {
-      positions = t .positions;
-      names = t .names;
-      start = t .start;
-      operations = t .operations;
-      rows = t .rows;
-      lengths = t .lengths;
-      bytes = t .bytes;
-      mark = markOf t;
-    }
+    marked (started (followed (p .table) (p .last) (p .first)) (p .first))
 
 -- nothing was placed
 abbrev pub refusal : ℕ → Table → Placed

@@ -41,19 +41,9 @@ fn follow(t: Table, last: u64, first: u64) -> Table
 {
     let old = t.rows;
     let rows = link(old, last, first);
-    let operations = t.operations;
-    let lengths = t.lengths;
-    let bytes = t.bytes;
-    Table {
-        positions: t.positions,
-        names: t.names,
-        start: t.start,
-        operations: operations,
-        rows: rows,
-        lengths: lengths,
-        bytes: bytes,
-        mark: t.mark,
-    }
+    let mut out = t;
+    out.rows = rows;
+    out
 }
 
 // l or r, where r was read after l.

@@ -18,7 +18,7 @@ pub struct Placed {
 }
 
 // Nothing was placed.
-pub fn refuse(number: u8, t: Table) -> Placed
+fn refuse(number: u8, t: Table) -> Placed
     ensures { λ r. ⌜ r ≡ refusal number t ⌝ }
 {
     Placed {
@@ -54,20 +54,11 @@ fn with_name(t: Table, name: &[u8]) -> Table
     let i = t.names;
     let old = t.bytes;
     let bytes = write(old, 16 * i, name);
-    let mut lengths = t.lengths;
-    lengths[i] = name.len() as u8;
-    let operations = t.operations;
-    let rows = t.rows;
-    Table {
-        positions: t.positions,
-        names: i + 1,
-        start: t.start,
-        operations: operations,
-        rows: rows,
-        lengths: lengths,
-        bytes: bytes,
-        mark: t.mark,
-    }
+    let mut out = t;
+    out.names = i + 1;
+    out.lengths[i] = name.len() as u8;
+    out.bytes = bytes;
+    out
 }
 
 // One position more, of the operation o: its own first and last.

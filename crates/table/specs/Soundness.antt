@@ -33,7 +33,7 @@ pub record Sound (t : Table) : Type 0 where
   -- "start set and rows are not empty and name only existing positions"
   pub start-fits : Fit t (t .start)
   pub rows-fit : (p : ℕ) → p < t .positions → Fit t (rowAt t p)
-  -- "names are distinct and well formed"
+  -- "names are distinct and well formed"; a length above 16 could run past the last byte, where `spelling` would not show it
   pub names-distinct : (i j : ℕ) → i < t .names → j < t .names → key (spelling t i) ≡ key (spelling t j) → i ≡ j
   pub names-well-formed : (i : ℕ) → i < t .names → (lengthAt t i ≤ 16) × (wellFormed (spelling t i) ≡ true)
   -- "unused cells are zero"

@@ -1,14 +1,8 @@
 -- A loop over a fixed range: the invariant is the range's bound.
 use Prim.Native.Nat.{_-_, _≤_}
-use native.Mathlib.Omega.{arith}
 use borrow.Author.Needs.{needs}
 use Rattle.readings.proofs.main.Statement.{statement}
 use Rattle.readings.proofs.main.Tie as tie
-use Rattle.readings.proofs.main.Reads as reads
-use Rattle.readings.proofs.main.Lts as lts
-use Rattle.io.proofs.large_buffer.Reads as large-buffer-reads
-use Rattle.io.proofs.read_full.Reads as read-full-reads
-use Rattle.readings.proofs.show.Reads as show-reads
 
 abbrev Inv-loop : tie.InvT-loop
 Inv-loop input n from₀ i₀ from i = i ≤ 65536

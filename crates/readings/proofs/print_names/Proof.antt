@@ -1,13 +1,8 @@
 -- A loop over a fixed range: the invariant is the range's bound.
 use Prim.Native.Nat.{_-_, _≤_}
-use native.Mathlib.Omega.{arith}
 use borrow.Author.Needs.{needs}
 use Rattle.readings.proofs.print_names.Statement.{statement}
 use Rattle.readings.proofs.print_names.Tie as tie
-use Rattle.readings.proofs.print_names.Reads as reads
-use Rattle.readings.proofs.print_names.Lts as lts
-use Rattle.readings.proofs.print.Reads as print-reads
-use Rattle.readings.proofs.print_name.Reads as print-name-reads
 
 abbrev Inv-loop : tie.InvT-loop
 Inv-loop bytes n lengths i₀ i = i ≤ 32

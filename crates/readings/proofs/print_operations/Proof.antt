@@ -1,13 +1,8 @@
 -- A loop over a fixed range: the invariant is the range's bound.
 use Prim.Native.Nat.{_-_, _≤_}
-use native.Mathlib.Omega.{arith}
 use borrow.Author.Needs.{needs}
 use Rattle.readings.proofs.print_operations.Statement.{statement}
 use Rattle.readings.proofs.print_operations.Tie as tie
-use Rattle.readings.proofs.print_operations.Reads as reads
-use Rattle.readings.proofs.print_operations.Lts as lts
-use Rattle.readings.proofs.print.Reads as print-reads
-use Rattle.readings.proofs.print_operation.Reads as print-operation-reads
 
 abbrev Inv-loop : tie.InvT-loop
 Inv-loop n operations p₀ p = p ≤ 64

@@ -1,13 +1,8 @@
 -- A loop over a fixed range: the invariant is the range's bound.
 use Prim.Native.Nat.{_-_, _≤_}
-use native.Mathlib.Omega.{arith}
 use borrow.Author.Needs.{needs}
 use Rattle.readings.proofs.print_rows.Statement.{statement}
 use Rattle.readings.proofs.print_rows.Tie as tie
-use Rattle.readings.proofs.print_rows.Reads as reads
-use Rattle.readings.proofs.print_rows.Lts as lts
-use Rattle.readings.proofs.print.Reads as print-reads
-use Rattle.readings.proofs.print_set.Reads as print-set-reads
 
 abbrev Inv-loop : tie.InvT-loop
 Inv-loop n rows p₀ p = p ≤ 64

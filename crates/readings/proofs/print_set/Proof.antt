@@ -1,13 +1,8 @@
 -- A loop over a fixed range: the invariant is the range's bound.
 use Prim.Native.Nat.{_-_, _≤_}
-use native.Mathlib.Omega.{arith}
 use borrow.Author.Needs.{needs}
 use Rattle.readings.proofs.print_set.Statement.{statement}
 use Rattle.readings.proofs.print_set.Tie as tie
-use Rattle.readings.proofs.print_set.Reads as reads
-use Rattle.readings.proofs.print_set.Lts as lts
-use Rattle.readings.proofs.print.Reads as print-reads
-use Rattle.readings.proofs.print_number.Reads as print-number-reads
 
 abbrev Inv-loop : tie.InvT-loop
 Inv-loop s rest₀ p₀ t5 t6 rest p = p ≤ 64

@@ -3,7 +3,7 @@
 -- that whatever the first part is read behind, all that was read so far is. Each turn is a lemma of its own (Expressions, Sequences,
 -- FactorPaths); here they are only cited.
 use mathlib.Core.Path.{_≡_, sym, ap, _∙_}
-use Prim.Native.Nat.{ℕ, _+_, _*_, _≤_, _<_}
+use Prim.Native.Nat.{ℕ, _+_, _*_, _<_}
 use native.Mathlib.Omega.{arith}
 use borrow.Author.Needs.{needs}
 use borrow.Rule.Slice.PartAt.{part-to-end}

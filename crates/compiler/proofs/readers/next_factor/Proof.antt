@@ -6,9 +6,6 @@ use Rattle.compiler.proofs.Arms.{no-factor-there}
 use Rattle.compiler.proofs.Onwards.{next-fits, goes-by}
 use Rattle.compiler.proofs.readers.next_factor.Statement.{statement}
 use Rattle.compiler.proofs.readers.next_factor.Tie as tie
-use Rattle.compiler.proofs.readers.next_factor.Reads as reads
-use Rattle.compiler.proofs.readers.next_factor.Lts as lts
-use Rattle.text.proofs.tokens.next.Reads as next-reads
 
 -- src/readers.rt:117:13
 sub-k : tie.Need-sub-k

@@ -6,9 +6,6 @@ use Rattle.compiler.proofs.Arms.{no-sequence-there}
 use Rattle.compiler.proofs.Onwards.{next-fits, goes-by}
 use Rattle.compiler.proofs.readers.next_sequence.Statement.{statement}
 use Rattle.compiler.proofs.readers.next_sequence.Tie as tie
-use Rattle.compiler.proofs.readers.next_sequence.Reads as reads
-use Rattle.compiler.proofs.readers.next_sequence.Lts as lts
-use Rattle.text.proofs.tokens.next.Reads as next-reads
 
 -- src/readers.rt:133:13
 sub-k : tie.Need-sub-k

@@ -1,9 +1,6 @@
 use borrow.Author.Needs.{needs}
 use Rattle.compiler.proofs.readers.or_read.Statement.{statement}
 use Rattle.compiler.proofs.readers.or_read.Tie as tie
-use Rattle.compiler.proofs.readers.or_read.Reads as reads
-use Rattle.compiler.proofs.readers.or_read.Lts as lts
-use Rattle.parts.proofs.joining.either_part.Reads as either-part-reads
 
 -- src/readers.rt:96:9
 either-part-requires : tie.Need-either-part-requires

@@ -1,9 +1,6 @@
 use borrow.Author.Needs.{needs}
 use Rattle.compiler.proofs.readers.then_read.Statement.{statement}
 use Rattle.compiler.proofs.readers.then_read.Tie as tie
-use Rattle.compiler.proofs.readers.then_read.Reads as reads
-use Rattle.compiler.proofs.readers.then_read.Lts as lts
-use Rattle.parts.proofs.joining.then_part.Reads as then-part-reads
 
 -- src/readers.rt:82:9
 then-part-requires : tie.Need-then-part-requires

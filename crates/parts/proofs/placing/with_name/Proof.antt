@@ -10,22 +10,22 @@ mul-write c = search needs
 write-requires : tie.Need-write-requires
 write-requires c κs = search needs
 
--- src/placing.rt:58:18
-cast-lengths : tie.Need-cast-lengths
-cast-lengths c = search needs
+-- src/placing.rt:58:17
+add-out : tie.Need-add-out
+add-out c = search needs
 
--- src/placing.rt:58:5
-array-write-lengths : tie.Need-array-write-lengths
-array-write-lengths c = search needs
+-- src/placing.rt:59:22
+cast-out : tie.Need-cast-out
+cast-out c = search needs
 
--- src/placing.rt:63:16
-add-t9 : tie.Need-add-t9
-add-t9 c = search needs
+-- src/placing.rt:59:5
+element-write-out : tie.Need-element-write-out
+element-write-out c = search needs
 
 -- src/placing.rt:50:1
 returns : tie.Need-returns
-returns c = simp (c .before .before .before .write .ensures)
+returns c = simp (c .write .ensures)
 
 pub with-name-spec : {M : Type 1} → statement M
 with-name-spec =
-    tie.close (tie.spec mul-write write-requires cast-lengths array-write-lengths add-t9 returns)
+    tie.close (tie.spec mul-write write-requires add-out cast-out element-write-out returns)
