@@ -15,7 +15,7 @@ use parts::joining::star_part;
 use parts::joining::then_part;
 use parts::placing::place;
 use table::cells::Table;
-use table::cells::no_table;
+use table::cells::table_of_zeros;
 use text::tokens::Token;
 use text::tokens::next;
 
@@ -39,7 +39,7 @@ struct Starring {
 }
 
 // The number by which a token is refused where it does not fit.
-fn number_of(token: Token) -> u8
+fn refusal_of(token: Token) -> u8
     ensures { λ r. ⌜ r ≡ unfit token ⌝ }
 {
     match token {
@@ -207,7 +207,7 @@ fn close(s: &[u8], e: Reading) -> Reading
         },
         _ => {
             let t = part.table;
-            halt(number_of(token), left - r.start, t)
+            halt(refusal_of(token), left - r.start, t)
         }
     }
 }
@@ -297,7 +297,7 @@ fn factor(s: &[u8], depth: usize, t: Table) -> Reading
             let e = expression(&s[from..], depth + 1, t);
             starry(s, close(s, e))
         }
-        _ => halt(number_of(token), n - start, t),
+        _ => halt(refusal_of(token), n - start, t),
     }
 }
 
@@ -305,7 +305,7 @@ fn factor(s: &[u8], depth: usize, t: Table) -> Reading
 fn refuse(number: u8, place: usize) -> Compiled
     ensures { λ r. ⌜ r ≡ refusedAt number place ⌝ }
 {
-    let table = no_table();
+    let table = table_of_zeros();
     Compiled {
         reply: Reply::Refused(Refusal {
             number: number,
@@ -330,7 +330,7 @@ fn conclude(s: &[u8], k: usize, p: Part) -> Compiled
                 table: table,
             }
         }
-        _ => refuse(number_of(token), k + r.start),
+        _ => refuse(refusal_of(token), k + r.start),
     }
 }
 
@@ -352,7 +352,7 @@ fn end(text: &[u8], e: Reading) -> Compiled
             let from = k + r.used;
             conclude(&text[from..], from, part)
         }
-        _ => refuse(number_of(token), k + r.start),
+        _ => refuse(refusal_of(token), k + r.start),
     }
 }
 
@@ -368,9 +368,9 @@ pub fn compile(text: &[u8]) -> Compiled
     match token {
         Token::Path => {
             let from = r.used;
-            let e = expression(&text[from..], 0, no_table());
+            let e = expression(&text[from..], 0, table_of_zeros());
             end(text, e)
         }
-        _ => refuse(number_of(token), r.start),
+        _ => refuse(refusal_of(token), r.start),
     }
 }

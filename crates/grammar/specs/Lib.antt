@@ -2,5 +2,6 @@
 pub mod Symbols
 pub mod Grammar
 pub mod Refusals
-pub mod Machine
 pub mod Promises
+-- What the compiler's readers follow: nothing to be believed, for Promises.antt ties it to the rest.
+pub mod Machine

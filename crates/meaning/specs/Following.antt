@@ -1,12 +1,11 @@
 -- Following rows and permission sets through a history: by single positions, by sets, and as a line does.
-use mathlib.Core.Bool.{Bool, true, _&&_, not}
+use mathlib.Core.Bool.{Bool, true, _&&_}
 use mathlib.Core.List.{List, [], _∷_}
 use Prim.Native.Nat.{ℕ}
 use lib.Bits.{bitAnd}
-use lib.Dec.{eqb}
 use lib.ListN.{getD}
 use Rattle.meaning.specs.Names.{Name}
-use Rattle.meaning.specs.Sets.{In, unionOf}
+use Rattle.meaning.specs.Sets.{In, meeting, unionOf}
 
 module _ (rows : List ℕ) (permission : Name → ℕ) where
   -- a walk through positions, from a set along the rows, spells the history
@@ -23,4 +22,4 @@ module _ (rows : List ℕ) (permission : Name → ℕ) where
   unfoldable pub permits : ℕ → List Name → Bool
   permits s [] = true
   permits s (k ∷ h) =
-      not (eqb (bitAnd s (permission k)) 0) && permits (unionOf rows (bitAnd s (permission k))) h
+      meeting s (permission k) && permits (unionOf rows (bitAnd s (permission k))) h

@@ -7,7 +7,7 @@ use mathlib.Core.Logic.{_↔_}
 use Prim.Native.Nat.{ℕ}
 use lib.ListN.{take}
 use Rattle.meaning.specs.Names.{key}
-use Rattle.meaning.specs.Sets.{unionOf}
+use Rattle.meaning.specs.Sets.{meeting, unionOf}
 use Rattle.meaning.proofs.SetLaws.{both-decide}
 use Rattle.text.proofs.Determined.{both-equal}
 use Rattle.table.specs.declared.numbers.Operation.{Operation}
@@ -15,13 +15,13 @@ use Rattle.table.specs.declared.numbers.Position.{Position}
 use Rattle.table.specs.declared.names.Found.{Found}
 use Rattle.table.specs.declared.cells.Table.{Table}
 use Rattle.table.specs.Cells.{zeros, spellings}
-use Rattle.table.specs.Following.{meeting, positionsWith, foundIn}
+use Rattle.table.specs.Following.{positionsWith, foundIn}
 use Rattle.table.specs.Linking.{single, linked}
 use Rattle.table.specs.Marks.{markOf}
 use Rattle.table.specs.Soundness.{Sound}
 
-pub no-table-determined : (r r′ : Table) → r ≡ zeros → r′ ≡ zeros → r ≡ r′
-no-table-determined r r′ = both-equal
+pub table-of-zeros-determined : (r r′ : Table) → r ≡ zeros → r′ ≡ zeros → r ≡ r′
+table-of-zeros-determined r r′ = both-equal
 
 pub set-of-determined : (p : Position) (r r′ : ℕ) → r ≡ single (p .0) → r′ ≡ single (p .0) → r ≡ r′
 set-of-determined p r r′ = both-equal

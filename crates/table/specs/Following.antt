@@ -1,8 +1,7 @@
 -- Following a table: permission sets, and the histories that it permits.
-use mathlib.Core.Bool.{Bool, cond, not}
+use mathlib.Core.Bool.{Bool, cond}
 use mathlib.Core.List.{List, [], _∷_}
 use Prim.Native.Nat.{ℕ, _+_, _*_}
-use lib.Bits.{bitAnd}
 use lib.Dec.{eqb}
 use lib.ListN.{take}
 use Rattle.meaning.specs.Names.{Name}
@@ -13,10 +12,6 @@ use Rattle.table.specs.declared.cells.Table.{Table}
 use Rattle.table.specs.declared.names.Found.{Found}
 use Rattle.table.specs.declared.names.Found.the-variants.{At, Nowhere}
 use Rattle.table.specs.Cells.{namesOf}
-
--- two sets "meet"
-unfoldable pub meeting : ℕ → ℕ → Bool
-meeting s t = not (eqb (bitAnd s t) 0)
 
 -- the positions, in a list of their operations, of operation o
 unfoldable pub positionsWith : List Operation → ℕ → ℕ

@@ -17,7 +17,7 @@ pub struct Table {
 }
 
 // The table of zeros, which a refused compile returns.
-pub fn no_table() -> Table
+pub fn table_of_zeros() -> Table
     ensures { λ r. ⌜ r ≡ zeros ⌝ }
 {
     let operations = [Operation(0); 64];

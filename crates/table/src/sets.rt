@@ -1,7 +1,7 @@
 // Sets of positions: position p is bit p - 1.
 ghost use mathlib.Core.Path.{_≡_};
-ghost use Rattle.meaning.specs.Sets.{unionOf};
-ghost use Rattle.table.specs.Following.{meeting, positionsWith};
+ghost use Rattle.meaning.specs.Sets.{meeting, unionOf};
+ghost use Rattle.table.specs.Following.{positionsWith};
 ghost use Rattle.table.specs.Linking.{single, linked};
 ghost use lib.ListN.{take};
 use crate::numbers::Operation;

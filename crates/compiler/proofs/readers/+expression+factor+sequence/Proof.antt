@@ -32,7 +32,7 @@ use Rattle.compiler.proofs.readers.close.Reads as close-reads
 use Rattle.compiler.proofs.readers.halt.Reads as halt-reads
 use Rattle.compiler.proofs.readers.next_factor.Reads as next-factor-reads
 use Rattle.compiler.proofs.readers.next_sequence.Reads as next-sequence-reads
-use Rattle.compiler.proofs.readers.number_of.Reads as number-of-reads
+use Rattle.compiler.proofs.readers.refusal_of.Reads as refusal-of-reads
 use Rattle.compiler.proofs.readers.or_read.Reads as or-read-reads
 use Rattle.compiler.proofs.readers.starry.Reads as starry-reads
 use Rattle.compiler.proofs.readers.table_of.Reads as table-of-reads
@@ -74,7 +74,7 @@ abbrev expression-calls : ℕ → expression-lts.Claims
 expression-calls t = (sequence-below t, sequence.Post, next-sequence-reads.Asked, next-sequence-reads.Learnt, table-of-reads.Asked, table-of-reads.Learnt, or-read-reads.Asked, or-read-reads.Learnt)
 
 abbrev factor-calls : ℕ → factor-lts.Claims
-factor-calls t = (next-reads.Asked, next-reads.Learnt, place-reads.Asked, place-reads.Learnt, halt-reads.Asked, halt-reads.Learnt, starry-reads.Asked, starry-reads.Learnt, expression-below t, expression.Post, close-reads.Asked, close-reads.Learnt, number-of-reads.Asked, number-of-reads.Learnt)
+factor-calls t = (next-reads.Asked, next-reads.Learnt, place-reads.Asked, place-reads.Learnt, halt-reads.Asked, halt-reads.Learnt, starry-reads.Asked, starry-reads.Learnt, expression-below t, expression.Post, close-reads.Asked, close-reads.Learnt, refusal-of-reads.Asked, refusal-of-reads.Learnt)
 
 abbrev sequence-calls : ℕ → sequence-lts.Claims
 sequence-calls t = (factor-below t, factor.Post, next-factor-reads.Asked, next-factor-reads.Learnt, table-of-reads.Asked, table-of-reads.Learnt, then-read-reads.Asked, then-read-reads.Learnt)
@@ -259,8 +259,8 @@ factor-starry-requires-2 t c κs =
     (c .before .before .before .before .before .before .next .ensures) _ _ _ _ (c .before .expression .ensures)
     (c .close .ensures)
 
-factor-number-of-requires : (t : ℕ) → factor-lts.Need-number-of-requires (factor-calls t) (factor-at t) factor.Post
-factor-number-of-requires t c κs = search needs
+factor-refusal-of-requires : (t : ℕ) → factor-lts.Need-refusal-of-requires (factor-calls t) (factor-at t) factor.Post
+factor-refusal-of-requires t c κs = search needs
 
 factor-sub-halt-3 : (t : ℕ) → factor-lts.Need-sub-halt-3 (factor-calls t) (factor-at t) factor.Post
 factor-sub-halt-3 t c =
@@ -286,7 +286,7 @@ factor-returns-5 : (t : ℕ) → factor-lts.Need-returns-5 (factor-calls t) (fac
 factor-returns-5 t c =
     factors.reads-other _ _ (c .before .before .before .next .ensures) _ _ _
     (begins-no-factor (c .before .before .before .next .result .token) (c .before .before .match .keys3))
-    (simp (c .halt3 .ensures, c .before .number-of .ensures))
+    (simp (c .halt3 .ensures, c .before .refusal-of .ensures))
 
 abbrev sequence-Inv-loop : sequence-lts.InvT-loop
 sequence-Inv-loop s depth q₀ q =
@@ -419,7 +419,7 @@ pub +expression+factor+sequence-spec : {M : Type 1} → statement M
     (factor-expression-requires t)
     (factor-close-requires t)
     (factor-starry-requires-2 t)
-    (factor-number-of-requires t)
+    (factor-refusal-of-requires t)
     (factor-sub-halt-3 t)
     (factor-halt-requires-3 t)
     (factor-returns-3 t)

@@ -40,8 +40,8 @@ sub-t15 : tie.Need-sub-t15
 sub-t15 c = used-behind (c .before .before .before .before .before .before .before .before .before .args .s .now) (c .before .before .before .before .before .before .before .before .before .args .e) _ (c .before .before .before .next .ensures) (c .before .before .before .before .before .before .before .before .before .pre)
 
 -- src/readers.rt:191:18
-number-of-requires : tie.Need-number-of-requires
-number-of-requires c κs = search needs
+refusal-of-requires : tie.Need-refusal-of-requires
+refusal-of-requires c κs = search needs
 
 -- src/readers.rt:191:36
 sub-halt : tie.Need-sub-halt
@@ -60,7 +60,7 @@ returns-3 : tie.Need-returns-3
 returns-3 c =
     closed-halts (c .before .before .before .before .before .before .before .before .before .before .before .args .s .now) (c .before .before .before .before .before .before .before .before .before .before .before .args .e) _ (c .before .before .before .before .before .next .ensures) _ (c .before .before .before .before .before .before .before .before .if1 .left)
     (not-close (c .before .before .before .before .before .next .result .token) (c .before .before .before .before .match .keys2))
-    (simp (c .halt .ensures, c .before .before .number-of .ensures))
+    (simp (c .halt .ensures, c .before .before .refusal-of .ensures))
 
 pub close-spec : {M : Type 1} → statement M
 close-spec =
@@ -74,7 +74,7 @@ close-spec =
     next-requires
     enum-told
     sub-t15
-    number-of-requires
+    refusal-of-requires
     sub-halt
     halt-requires
     returns-2

@@ -39,8 +39,8 @@ part-expression-end : tie.Need-part-expression-end
 part-expression-end c = search needs
 
 -- src/readers.rt:371:50
-no-table-requires : tie.Need-no-table-requires
-no-table-requires c κs = search needs
+table-of-zeros-requires : tie.Need-table-of-zeros-requires
+table-of-zeros-requires c κs = search needs
 
 -- src/readers.rt:371:17
 expression-requires : tie.Need-expression-requires
@@ -51,8 +51,8 @@ end-requires : tie.Need-end-requires
 end-requires c κs = (inside-fits _ _ (c .before .before .before .before .before .next .ensures) _ _ _ (c .expression .ensures), omega (arith, c .before .before .before .before .before .before .if1 .left))
 
 -- src/readers.rt:374:21
-number-of-requires : tie.Need-number-of-requires
-number-of-requires c κs = search needs
+refusal-of-requires : tie.Need-refusal-of-requires
+refusal-of-requires c κs = search needs
 
 -- src/readers.rt:374:14
 refuse-requires-2 : tie.Need-refuse-requires-2
@@ -63,14 +63,14 @@ returns-2 : tie.Need-returns-2
 returns-2 c =
     compiles _ _
     (starts-with-path _ (omega (arith, c .before .before .before .before .before .before .before .if1 .left)) _ (c .before .before .before .before .before .before .next .ensures) (c .before .before .before .before .enum-told .given .1) _ _
-    (c .before .before .no-table .ensures) (c .before .expression .ensures) _ (c .end .ensures))
+    (c .before .before .table-of-zeros .ensures) (c .before .expression .ensures) _ (c .end .ensures))
 
 -- src/readers.rt:360:1
 returns-3 : tie.Need-returns-3
 returns-3 c =
     compiles _ _
     (compile-not-path _ (omega (arith, c .before .before .before .before .if1 .left)) _ (c .before .before .before .next .ensures) (not-path (c .before .before .before .next .result .token) (c .before .before .match .keys2)) _
-    (simp (c .refuse2 .ensures, c .before .number-of .ensures)))
+    (simp (c .refuse2 .ensures, c .before .refusal-of .ensures)))
 
 pub compile-spec : {M : Type 1} → statement M
 compile-spec =
@@ -83,10 +83,10 @@ compile-spec =
     sub-expression
     part-expression-start
     part-expression-end
-    no-table-requires
+    table-of-zeros-requires
     expression-requires
     end-requires
-    number-of-requires
+    refusal-of-requires
     refuse-requires-2
     returns-2
     returns-3)

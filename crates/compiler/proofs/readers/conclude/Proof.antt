@@ -19,8 +19,8 @@ complete-requires : tie.Need-complete-requires
 complete-requires c κs = search needs
 
 -- src/readers.rt:327:21
-number-of-requires : tie.Need-number-of-requires
-number-of-requires c κs = search needs
+refusal-of-requires : tie.Need-refusal-of-requires
+refusal-of-requires c κs = search needs
 
 -- src/readers.rt:327:39
 add-refuse : tie.Need-add-refuse
@@ -38,7 +38,7 @@ returns c = concluded-accepts _ _ _ _ (c .before .before .before .next .ensures)
 returns-2 : tie.Need-returns-2
 returns-2 c =
     concluded-refuses _ _ _ _ (c .before .before .before .before .next .ensures) (not-text-end (c .before .before .before .before .next .result .token) (c .before .before .before .match .keys2)) _
-    (simp (c .refuse .ensures, c .before .before .number-of .ensures))
+    (simp (c .refuse .ensures, c .before .before .refusal-of .ensures))
 
 pub conclude-spec : {M : Type 1} → statement M
 conclude-spec =
@@ -47,7 +47,7 @@ conclude-spec =
     next-requires
     enum-told
     complete-requires
-    number-of-requires
+    refusal-of-requires
     add-refuse
     refuse-requires
     returns

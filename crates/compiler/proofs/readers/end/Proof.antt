@@ -58,8 +58,8 @@ conclude-requires : tie.Need-conclude-requires
 conclude-requires c κs = omega (arith, rest-fits (c .before .before .before .before .before .before .before .before .before .before .args .text .now) (c .before .before .before .before .before .before .before .before .before .before .args .e) (c .before .before .before .before .before .before .before .if1 .left) _ (c .before .before .before .before .next .ensures) (c .before .before .before .before .before .before .before .before .before .before .pre .0), c .before .before .before .before .before .before .before .before .before .before .pre .1)
 
 -- src/readers.rt:349:21
-number-of-requires : tie.Need-number-of-requires
-number-of-requires c κs = search needs
+refusal-of-requires : tie.Need-refusal-of-requires
+refusal-of-requires c κs = search needs
 
 -- src/readers.rt:349:39
 add-refuse : tie.Need-add-refuse
@@ -77,7 +77,7 @@ returns-2 c = ended-ends _ _ (c .before .before .before .before .before .before 
 returns-3 : tie.Need-returns-3
 returns-3 c =
     ended-refuses _ _ (c .before .before .before .before .before .before .before .if1 .left) _ (c .before .before .before .before .next .ensures) (not-end (c .before .before .before .before .next .result .token) (c .before .before .before .match .keys2)) _
-    (simp (c .refuse2 .ensures, c .before .before .number-of .ensures))
+    (simp (c .refuse2 .ensures, c .before .before .refusal-of .ensures))
 
 pub end-spec : {M : Type 1} → statement M
 end-spec =
@@ -96,7 +96,7 @@ end-spec =
     part-conclude-start
     part-conclude-end
     conclude-requires
-    number-of-requires
+    refusal-of-requires
     add-refuse
     refuse-requires-2
     returns-2

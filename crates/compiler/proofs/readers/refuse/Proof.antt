@@ -3,12 +3,12 @@ use Rattle.compiler.proofs.readers.refuse.Statement.{statement}
 use Rattle.compiler.proofs.readers.refuse.Tie as tie
 
 -- src/readers.rt:302:9
-no-table-requires : tie.Need-no-table-requires
-no-table-requires c κs = search needs
+table-of-zeros-requires : tie.Need-table-of-zeros-requires
+table-of-zeros-requires c κs = search needs
 
 -- src/readers.rt:299:1
 returns : tie.Need-returns
-returns c = simp (c .no-table .ensures)
+returns c = simp (c .table-of-zeros .ensures)
 
 pub refuse-spec : {M : Type 1} → statement M
-refuse-spec = tie.close (tie.spec no-table-requires returns)
+refuse-spec = tie.close (tie.spec table-of-zeros-requires returns)
