@@ -24,7 +24,8 @@ module _ (s : List ℕ) (k : ℕ) (p : Part) (u : Read) (told : u ≡ nextToken 
   unfolding concluded
   concluded-accepts e t is = rw (is, ← told, e) refl
 
-  pub concluded-refuses : isTextEnd (u .token) ≡ false → (r : Compiled) → r ≡ refusedAt (unfit (u .token)) (k + u .start) → r ≡ concluded s k p
+  pub concluded-refuses : isTextEnd (u .token) ≡ false → (r : Compiled) → r ≡ refusedAt (unfit (u .token)) (k + u .start) → r ≡
+      concluded s k p
   unfolding concluded
   concluded-refuses e r is = rw (is, ← told, e) refl
 
@@ -41,16 +42,19 @@ module _ (text : List ℕ) (e : Reading) where
     end-starts w = omega (arith, start-behind text e u told w)
 
     -- all that is left, and the place where it starts, make the text
-    pub rest-fits : e .left ≤ length text → length text - e .left + u .used + length (slice text (length text - e .left + u .used)) ≤ length text
+    pub rest-fits : e .left ≤ length text → length text - e .left + u .used + length (slice text (length text - e .left +
+        u .used)) ≤ length text
     rest-fits w = omega (arith, used-behind text e u told w, slice-size text (length text - e .left + u .used))
 
     pub ended-ends : u .token ≡ End → (r : Compiled)
         → r ≡ concluded (slice text (length text - e .left + u .used)) (length text - e .left + u .used) (e .part) → r ≡ ended text e
     unfolding ended
     ended-ends t r is =
-        is ∙ ap (λ (v : List ℕ). concluded v (length text - e .left + u .used) (e .part)) (slice-drops text (length text - e .left + u .used))
+        is ∙ ap (λ (v : List ℕ). concluded v (length text - e .left + u .used) (e .part)) (slice-drops text (length text -
+        e .left + u .used))
         ∙ rw (eq-eqb _ _ z, ← is-behind text e u told, t) refl
 
-    pub ended-refuses : isEnd (u .token) ≡ false → (r : Compiled) → r ≡ refusedAt (unfit (u .token)) (length text - e .left + u .start) → r ≡ ended text e
+    pub ended-refuses : isEnd (u .token) ≡ false → (r : Compiled) → r ≡ refusedAt (unfit (u .token)) (length text - e .left +
+        u .start) → r ≡ ended text e
     unfolding ended
     ended-refuses t r is = rw (is, eq-eqb _ _ z, ← is-behind text e u told, t) refl

@@ -116,7 +116,8 @@ module _ (s : List ℕ) (d : ℕ) (t : Table) where
           ((sum : Option Expr) → Stops (drop j s) q d (λ ks. wanting (onSum sum none) ks) (ns ++ names (sumTo (here .left) (here .factor))))
       next-outcome ns rs here =
           let whole = sumTo (here .left) (here .factor) in
-          next .outcome (ns ++ names whole) (rowsAfter whole (length ns) rs) (table-so-far e whole ns rs (here .read .part)) (here .read .fine)
+          next .outcome (ns ++ names whole) (rowsAfter whole (length ns) rs) (table-so-far e whole ns rs (here .read .part))
+          (here .read .fine)
 
       -- and is refused
       pub sequence-is-refused : (q .number ≡ 0 → ⊥) → ExpressionRead endsExpression s d t q
@@ -127,14 +128,16 @@ module _ (s : List ℕ) (d : ℕ) (t : Table) where
           }
         where
           by : {W X : Type 0} (ns : List Name) (rs : List ℕ) (here : So-far ns rs)
-              → Either-way q W ((sum : Option Expr) → Stops (drop j s) q d (λ ks. wanting (onSum sum none) ks) (ns ++ names (sumTo (here .left) (here .factor))))
+              → Either-way q W ((sum : Option Expr) → Stops (drop j s) q d (λ ks. wanting (onSum sum none) ks) (ns ++ names
+              (sumTo (here .left) (here .factor))))
               → Either-way q X (Stops s q d (λ ks. wanting nothingLeft ks) ns)
           by ns rs here (inl (y, went)) = absurd (some-number y)
           by ns rs here (inr (n, stops)) =
               inr (
                 n,
                 λ text ks h k.
-                    reaches ns rs here text ks h k ∙ stops (some (sumTo (here .left) (here .factor))) text ks (tail-drop text s h j (on .fits)) k,
+                    reaches ns rs here text ks h k ∙ stops (some (sumTo (here .left) (here .factor))) text ks (tail-drop text s
+                    h j (on .fits)) k,
               )
 
       -- or read, and the expression is longer by it

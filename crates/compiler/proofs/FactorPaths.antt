@@ -40,7 +40,8 @@ module _ (s : List ℕ) (u : Read) (told : u ≡ nextToken s) where
   module _ (d : ℕ) (t : Table) (r : Reading) where
     pub reads-other : begins (u .token) ≡ false → r ≡ halted (unfit (u .token)) (length s - u .start) t → FactorRead s d t r
     reads-other =
-        subst (λ (v : Read). begins (v .token) ≡ false → r ≡ halted (unfit (v .token)) (length s - v .start) t → FactorRead s d t r) (sym told)
+        subst (λ (v : Read). begins (v .token) ≡ false → r ≡ halted (unfit (v .token)) (length s - v .start) t → FactorRead s d
+        t r) (sym told)
         (factor-other s d t r)
 
     pub reads-deep : u .token ≡ Open → 16 ≤ d → r ≡ halted 5 (length s - u .start) t → FactorRead s d t r
@@ -68,7 +69,8 @@ module _ (s : List ℕ) (u : Read) (told : u ≡ nextToken s) where
 
       pub reads-name : p .number ≡ 0 → Starry s (record { number = 0; left = length s - u .used; part = p .part }) r → FactorRead s d t r
       reads-name =
-          subst (λ (v : Read). p .number ≡ 0 → Starry s (record { number = 0; left = length s - v .used; part = p .part }) r → FactorRead s d t r)
+          subst (λ (v : Read). p .number ≡ 0 → Starry s (record { number = 0; left = length s - v .used; part = p .part }) r →
+          FactorRead s d t r)
           (sym told) (factor-name s d t m is-name p is-placed r)
 
     pub reads-open : u .token ≡ Open → d < 16 → (e : Reading)
@@ -76,7 +78,8 @@ module _ (s : List ℕ) (u : Read) (told : u ≡ nextToken s) where
     reads-open =
         subst
         (λ (v : Read).
-        v .token ≡ Open → d < 16 → (e : Reading) → ExpressionRead endsExpression (slice s (v .used)) (d + 1) t e → (q : Reading) → q ≡ closed s e → Starry s q r → FactorRead s d t r)
+        v .token ≡ Open → d < 16 → (e : Reading) → ExpressionRead endsExpression (slice s (v .used)) (d + 1) t e → (q : Reading)
+        → q ≡ closed s e → Starry s q r → FactorRead s d t r)
         (sym told)
         (λ is-open shallow e inner q is-closed starry. factor-open s d t is-open shallow e inner q r is-closed starry)
 
@@ -84,5 +87,6 @@ module _ (s : List ℕ) (u : Read) (told : u ≡ nextToken s) where
   pub inside-fits : (d : ℕ) (t : Table) (e : Reading) → ExpressionRead endsExpression (slice s (u .used)) d t e → e .left ≤ length s
   inside-fits d t e inner = omega (arith, inner .within, slice-size s (u .used))
 
-  pub closed-fits : (d : ℕ) (t : Table) (e q : Reading) → ExpressionRead endsExpression (slice s (u .used)) d t e → q ≡ closed s e → q .left ≤ length s
+  pub closed-fits : (d : ℕ) (t : Table) (e q : Reading) → ExpressionRead endsExpression (slice s (u .used)) d t e → q ≡ closed s
+      e → q .left ≤ length s
   closed-fits d t e q inner is = omega (arith, inside-fits d t e inner, closed-left s e, ap (λ (x : Reading). x .left) is)

@@ -179,8 +179,10 @@ module _ (s : List ℕ) (d : ℕ) (t : Table) where
             outcome = λ ns rs same fine.
                 let limit : nameLimit ns (nameAt s m) ≡ 0 = sym (number-is ns rs same fine) ∙ z in
                 let f = starTimes (starry .times) (nameOf (nameAt s m)) in
-                let all : ns ++ names f ≡ ns ++ nameAt s m ∷ [] = ap (λ (w : List Name). ns ++ w) (names-starred (starry .times) (nameOf (nameAt s m)) ∙ name-alone (nameAt s m)) in
-                let whole : p .part ≡ partOf (nameOf (nameAt s m)) ns rs = rw (told, same) (placed-part ns rs (nameAt s m) fine name-short limit) in
+                let all : ns ++ names f ≡ ns ++ nameAt s m ∷ [] = ap (λ (w : List Name). ns ++ w) (names-starred (starry .times)
+                (nameOf (nameAt s m)) ∙ name-alone (nameAt s m)) in
+                let whole : p .part ≡ partOf (nameOf (nameAt s m)) ns rs = rw (told, same) (placed-part ns rs (nameAt s m) fine
+                name-short limit) in
                 inl (
                   starry .number-stays,
                   (

@@ -161,7 +161,8 @@ module _ (s : List ℕ) (left : ℕ) (u : Read) (told : u ≡ nextToken (slice s
   next-fits h =
       omega (arith, ap (λ (v : Read). v .used) told, used-within-text (slice s (length s - left)), slice-size s (length s - left))
 
-  pub goes-by : (by : Token → ℕ → ℕ → Onward) (T : Token) → u .token ≡ T → (o : Onward) → o ≡ by T (length s - left) (u .used) → o ≡ fromBy by s left
+  pub goes-by : (by : Token → ℕ → ℕ → Onward) (T : Token) → u .token ≡ T → (o : Onward) → o ≡ by T (length s - left) (u .used) →
+      o ≡ fromBy by s left
   goes-by by T t o is =
       is ∙ ap (λ (x : Token). by x (length s - left) (u .used)) (sym t)
       ∙ ap (λ (v : Read). by (v .token) (length s - left) (v .used)) (told ∙ ap nextToken (slice-drops s (length s - left)))

@@ -41,7 +41,8 @@ module _ (s : List ℕ) (d : ℕ) (t : Table) where
       by ns rs (inr (n, stops)) = inr (n, λ sum. stops (onSum sum none))
 
   -- a refusal is one, whatever may stand behind a part
-  pub sequence-refused : (ends ends′ : Token → Bool) (r : Reading) → SequenceRead ends s d t r → (r .number ≡ 0 → ⊥) → SequenceRead ends′ s d t r
+  pub sequence-refused : (ends ends′ : Token → Bool) (r : Reading) → SequenceRead ends s d t r → (r .number ≡ 0 → ⊥) →
+      SequenceRead ends′ s d t r
   sequence-refused ends ends′ r given some-number =
       record {
         within = given .within;
@@ -61,7 +62,8 @@ module _ (s : List ℕ) (d : ℕ) (t : Table) where
       factor : Expr
       read : Part-read s q endsFactor ns rs (thenAfter run factor)
       goes : (sum : Option Expr)
-          → Goes s (q .left) d (λ ks. wanting (onSum sum none) ks) ns (λ ks. having (onSum sum run) factor ks) (ns ++ names (thenAfter run factor))
+          → Goes s (q .left) d (λ ks. wanting (onSum sum none) ks) ns (λ ks. having (onSum sum run) factor ks) (ns ++ names
+          (thenAfter run factor))
 
     so-far : (ns : List Name) (rs : List ℕ) → t ≡ noted ns rs → Fine ns → So-far ns rs
     so-far ns rs same fine = by (given .outcome ns rs same fine)
@@ -69,7 +71,8 @@ module _ (s : List ℕ) (d : ℕ) (t : Table) where
         by : {S : Type 0}
             → Either-way q ((run : Option Expr) × (g : Expr) × Part-read s q endsFactor ns rs (thenAfter run g)
             × ((sum : Option Expr)
-            → Goes s (q .left) d (λ ks. wanting (onSum sum none) ks) ns (λ ks. having (onSum sum run) g ks) (ns ++ names (thenAfter run g)))) S
+            → Goes s (q .left) d (λ ks. wanting (onSum sum none) ks) ns (λ ks. having (onSum sum run) g ks) (ns ++ names
+            (thenAfter run g)))) S
             → So-far ns rs
         by (inl (y, (run, g, read, goes))) = record { run = run; factor = g; read = read; goes = goes }
         by (inr (n, stops)) = absurd (n z)
@@ -125,7 +128,8 @@ module _ (s : List ℕ) (d : ℕ) (t : Table) where
           ((l : Left) → Stops (drop j s) f d (λ ks. wanting l ks) (ns ++ names (thenAfter (here .run) (here .factor))))
       next-outcome ns rs here =
           let whole = thenAfter (here .run) (here .factor) in
-          next .outcome (ns ++ names whole) (rowsAfter whole (length ns) rs) (table-so-far q whole ns rs (here .read .part)) (here .read .fine)
+          next .outcome (ns ++ names whole) (rowsAfter whole (length ns) rs) (table-so-far q whole ns rs (here .read .part))
+          (here .read .fine)
 
       -- and is refused
       pub factor-refused : (f .number ≡ 0 → ⊥) → SequenceRead endsSequence s d t f
@@ -170,7 +174,8 @@ module _ (s : List ℕ) (d : ℕ) (t : Table) where
               (λ ks. having l g ks) ((ns ++ names (thenAfter (here .run) (here .factor))) ++ names g))) S
               → Either-way (thenRead q f) ((run : Option Expr) × (g : Expr) × Part-read s (thenRead q f) endsFactor ns rs (thenAfter run g)
               × ((sum : Option Expr)
-              → Goes s (f .left) d (λ ks. wanting (onSum sum none) ks) ns (λ ks. having (onSum sum run) g ks) (ns ++ names (thenAfter run g)))) T
+              → Goes s (f .left) d (λ ks. wanting (onSum sum none) ks) ns (λ ks. having (onSum sum run) g ks) (ns ++ names
+              (thenAfter run g)))) T
           by ns rs here (inr (n, stops)) = absurd (n y)
           by ns rs here (inl (x, (g, read, goes))) =
               let whole = thenAfter (here .run) (here .factor) in

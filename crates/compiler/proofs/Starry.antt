@@ -43,7 +43,8 @@ module _ (s : List ℕ) (p : Reading) (st : Starring) (z : p .number ≡ 0) (w :
 
   -- the stars take the machine on, from where p ends
   stars-go : (left : ℕ) → left ≡ p .left - st .used → (l : Left) (f : Expr) (d : ℕ) (ns : List Name) (text : List ℕ) (ks : List Left)
-      → Tail text s → length ks ≡ d → verdict text (p .left) (having l f ks) ns ≡ verdict text left (having l (starTimes (stars-at .times) f) ks) ns
+      → Tail text s → length ks ≡ d → verdict text (p .left) (having l f ks) ns ≡ verdict text left (having l (starTimes
+      (stars-at .times) f) ks) ns
   stars-go left e l f d ns text ks h n =
       ap (λ (k : ℕ). verdict text k (having l f ks) ns) (sym (ending-size s p w))
       ∙ stars-at .goes l f d ns text ks (ending-tail s p w text h) n
@@ -71,7 +72,12 @@ module _ (s : List ℕ) (p : Reading) (st : Starring) (z : p .number ≡ 0) (w :
         goes = λ _. stars-go (p .left) none;
       }
 
-  pub starry-starred : (r : Reading) → st .any ≡ true → r ≡ record { number = 0; left = p .left - st .used; part = starred (p .part) } → Starry s p r
+  pub starry-starred : (r : Reading) → st .any ≡ true → r ≡ record {
+    number = 0;
+    left = p .left - st .used;
+    part = starred
+        (p .part);
+  } → Starry s p r
   starry-starred r e is =
       let left : r .left ≡ p .left - st .used = ap (λ (q : Reading). q .left) is in
       record {

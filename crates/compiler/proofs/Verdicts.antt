@@ -96,7 +96,8 @@ ended-by-4 size (having l f ks) h = refl
 ended-by-4 size (finished e) h = absurd (false≢true h)
 
 -- stuck at the token T, which stands at k, the machine refuses it there by its number
-stuck-refused : (T : Token) (size k : ℕ) (w : List ℕ) (xs : List Item) (st : State) (ns : List Name) → stuckAt st T w ≡ true → (T ≡ TextEnd → k ≡ size)
+stuck-refused : (T : Token) (size k : ℕ) (w : List ℕ) (xs : List Item) (st : State) (ns : List Name) → stuckAt st T w ≡ true →
+    (T ≡ TextEnd → k ≡ size)
     → judgeFrom size (itemsBy T k w xs) st ns ≡ refused (unfit T) k
 unfolding judgeFrom judgeItem itemsBy
 stuck-refused Semicolon size k w xs st ns h e = refused-by-4 _ k _ _ h
@@ -136,7 +137,8 @@ module _ (text s : List ℕ) (h : Tail text s) where
   -- a symbol is stepped over, or refused by 4 or by a limit
   pub verdict-symbol : (T : Token) (t : Symbol) → nextToken s .token ≡ T → Is T (drop (nextToken s .start) s) t
       → (st : State) (ns : List Name) → verdict text (length s) st ns
-      ≡ stepped (limitAt (depthOf st) ns t) (place text s) (stepTo st t) (λ st′. verdict text (length s - nextToken s .used) st′ (namesOn ns t))
+      ≡ stepped (limitAt (depthOf st) ns t) (place text s) (stepTo st t) (λ st′. verdict text (length s - nextToken s .used) st′
+      (namesOn ns t))
   unfolding judgeFrom judgeItem verdict
   verdict-symbol T t e is st ns = verdict-item st ns ∙ rw (e, is (place text s) _) refl
 

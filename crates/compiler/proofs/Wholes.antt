@@ -54,7 +54,8 @@ outside-stuck Bad w h = refl
 outside-stuck Long w h = refl
 
 -- behind the whole expression, the machine is stuck at anything but `end`
-unended-stuck : (l : Left) (f : Expr) (T : Token) (w : List ℕ) → endsExpression T ≡ true → isEnd T ≡ false → stuckAt (having l f []) T w ≡ true
+unended-stuck : (l : Left) (f : Expr) (T : Token) (w : List ℕ) → endsExpression T ≡ true → isEnd T ≡ false → stuckAt (having l f
+    []) T w ≡ true
 unfolding stepTo haveStep
 unended-stuck l f Semicolon w h n = absurd (true≢false (sym h))
 unended-stuck l f Plus w h n = absurd (true≢false (sym h))
@@ -139,7 +140,8 @@ module _ (text : List ℕ) (short : length text ≤ 4096) where
       (is ∙ ap (λ (v : Read). refusedAt (unfit (v .token)) (v .start)) told
       ∙ ap answered
       (ap (refused (unfit T)) (sym at-start)
-      ∙ sym (verdict-stuck text text (tail-whole text) outside [] (outside-stuck T _ (ap (λ (v : Read). isPath (v .token)) (sym told) ∙ other)))))
+      ∙ sym (verdict-stuck text text (tail-whole text) outside [] (outside-stuck T _ (ap (λ (v : Read). isPath (v .token)) (sym
+      told) ∙ other)))))
 
   -- the text starts with `path`, and e was read behind it
   module _ (is-path-token : nextToken text .token ≡ Path) (t : Table) (e : Reading) (is-zeros : t ≡ zeros)

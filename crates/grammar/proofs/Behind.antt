@@ -88,7 +88,8 @@ closes : {u v : List Symbol} {l k : Left} {f : Expr} {ks : List Left} → Ahead 
 closes {u} {v} (ahead p q (one-more p′ q′ hs hk e) hq e′) d =
     let within = q ++ v in
     let regrouped : u ++ v ++ closing ∷ [] ≡ p′ ++ q′ ++ (opening ∷ within ++ closing ∷ []) = rw (e′, e) (simp append-assoc) in
-    behind (p′ ++ q′) (opening ∷ within ++ closing ∷ []) (ahead p′ q′ hs hk refl) (in-parentheses within (ends-expression d hq) refl) regrouped
+    behind (p′ ++ q′) (opening ∷ within ++ closing ∷ []) (ahead p′ q′ hs hk refl) (in-parentheses within (ends-expression d hq)
+    refl) regrouped
 
 -- `end` makes a whole text of it
 ends : {u v : List Symbol} {l : Left} {f : Expr} → Ahead u l [] → Factor v f → Whole (u ++ v ++ end ∷ []) (sumTo l f)

@@ -89,7 +89,8 @@ reads-formed : {is : List Item} {ts : List Symbol} → Reads is ts → FormedIte
 unfolding namesIn
 reads-formed nothing h n m = absurd (List·Memᴰ·not-nil m)
 reads-formed (next {t = t} {ts = ts} r) h n m =
-    ⊎-elim (h .0 n) (λ later. reads-formed r (h .1) n later) (List·Memᴰ·append-cases (namesIn (t ∷ [])) (rw (names-append (t ∷ []) ts) at m))
+    ⊎-elim (h .0 n) (λ later. reads-formed r (h .1) n later) (List·Memᴰ·append-cases (namesIn (t ∷ [])) (rw (names-append (t ∷
+    []) ts) at m))
 
 pub names-well-formed : Names-well-formed
 names-well-formed text e a n m =

@@ -90,5 +90,6 @@ pub rules-table-permits : Rules-table-permits
 unfolding tablePermits tableOf
 rules-table-permits e limits h =
     let t = tableOf e in
-    let agree = permits-agree (t .rows) (rows e) (permissionOf t) (permission e) (union-of-padded 64 (rows e)) (permission-agrees e limits) in
+    let agree = permits-agree (t .rows) (rows e) (permissionOf t) (permission e) (union-of-padded 64 (rows e))
+    (permission-agrees e limits) in
     rw (agree (start e) h) (permits-begins e h)

@@ -71,13 +71,46 @@ sequence-below t = and 1 sequence-kinds.ps (falls 1 sequence-kinds.ps _<_ μ-seq
 
 -- what each reader is told of those that it calls
 abbrev expression-calls : ℕ → expression-lts.Claims
-expression-calls t = (sequence-below t, sequence.Post, next-sequence-reads.Asked, next-sequence-reads.Learnt, table-of-reads.Asked, table-of-reads.Learnt, or-read-reads.Asked, or-read-reads.Learnt)
+expression-calls t = (
+  sequence-below t,
+  sequence.Post,
+  next-sequence-reads.Asked,
+  next-sequence-reads.Learnt,
+  table-of-reads.Asked,
+  table-of-reads.Learnt,
+  or-read-reads.Asked,
+  or-read-reads.Learnt,
+)
 
 abbrev factor-calls : ℕ → factor-lts.Claims
-factor-calls t = (next-reads.Asked, next-reads.Learnt, place-reads.Asked, place-reads.Learnt, halt-reads.Asked, halt-reads.Learnt, starry-reads.Asked, starry-reads.Learnt, expression-below t, expression.Post, close-reads.Asked, close-reads.Learnt, refusal-of-reads.Asked, refusal-of-reads.Learnt)
+factor-calls t = (
+  next-reads.Asked,
+  next-reads.Learnt,
+  place-reads.Asked,
+  place-reads.Learnt,
+  halt-reads.Asked,
+  halt-reads.Learnt,
+  starry-reads.Asked,
+  starry-reads.Learnt,
+  expression-below t,
+  expression.Post,
+  close-reads.Asked,
+  close-reads.Learnt,
+  refusal-of-reads.Asked,
+  refusal-of-reads.Learnt,
+)
 
 abbrev sequence-calls : ℕ → sequence-lts.Claims
-sequence-calls t = (factor-below t, factor.Post, next-factor-reads.Asked, next-factor-reads.Learnt, table-of-reads.Asked, table-of-reads.Learnt, then-read-reads.Asked, then-read-reads.Learnt)
+sequence-calls t = (
+  factor-below t,
+  factor.Post,
+  next-factor-reads.Asked,
+  next-factor-reads.Learnt,
+  table-of-reads.Asked,
+  table-of-reads.Learnt,
+  then-read-reads.Asked,
+  then-read-reads.Learnt,
+)
 
 abbrev expression-Inv-loop : expression-lts.InvT-loop
 expression-Inv-loop s depth e₀ e =
@@ -86,46 +119,73 @@ expression-Inv-loop s depth e₀ e =
 abbrev expression-μ-loop : expression-lts.MeasureT-loop
 expression-μ-loop s depth e₀ e = e .left
 
-expression-given : (t : ℕ) (c : expression-lts.At-loop (expression-calls t) (expression-at t) expression.Post expression-Inv-loop expression-μ-loop) → ExpressionRead endsSequence (c .before .before .before .before .before .args .s .now) (c .before .before .before .before .before .args .depth) (c .before .before .before .before .before .args .t) (c .loop .e)
-expression-given t c = c .loop .inv .0 (c .before .before .before .before .before .args .t) (expressions.expression-starts (c .before .before .before .before .before .args .s .now) (c .before .before .before .before .before .args .depth) (c .before .before .before .before .before .args .t) (c .before .before .before .sequence .result) (c .before .before .before .sequence .ensures))
+expression-given : (t : ℕ) (c : expression-lts.At-loop (expression-calls t) (expression-at t) expression.Post
+    expression-Inv-loop expression-μ-loop) → ExpressionRead endsSequence
+    (c .before .before .before .before .before .args .s .now) (c .before .before .before .before .before .args .depth)
+    (c .before .before .before .before .before .args .t) (c .loop .e)
+expression-given t c = c .loop .inv .0 (c .before .before .before .before .before .args .t) (expressions.expression-starts
+    (c .before .before .before .before .before .args .s .now) (c .before .before .before .before .before .args .depth)
+    (c .before .before .before .before .before .args .t) (c .before .before .before .sequence .result)
+    (c .before .before .before .sequence .ensures))
 
-expression-on : (t : ℕ) (c : expression-lts.After-onward (expression-calls t) (expression-at t) expression.Post expression-Inv-loop expression-μ-loop) → Goes-on upward (c .before .before .before .before .before .before .before .before .args .s .now) (c .before .before .before .loop .e) (c .onward .given .0 .0)
-expression-on t c = sequence-follows (c .before .before .before .before .before .before .before .before .args .s .now) (c .before .before .before .loop .e) ((expression-given t (c .before .before .before)) .within) (c .onward .given .0 .0) (sym (c .before .before .next-sequence .ensures) ∙ c .onward .given .1)
+expression-on : (t : ℕ) (c : expression-lts.After-onward (expression-calls t) (expression-at t) expression.Post
+    expression-Inv-loop expression-μ-loop) → Goes-on upward
+    (c .before .before .before .before .before .before .before .before .args .s .now) (c .before .before .before .loop .e)
+    (c .onward .given .0 .0)
+expression-on t c = sequence-follows (c .before .before .before .before .before .before .before .before .args .s .now)
+    (c .before .before .before .loop .e) ((expression-given t (c .before .before .before)) .within) (c .onward .given .0 .0)
+    (sym (c .before .before .next-sequence .ensures) ∙ c .onward .given .1)
 
-expression-sequence-requires : (t : ℕ) → expression-lts.Need-sequence-requires (expression-calls t) (expression-at t) expression.Post expression-Inv-loop expression-μ-loop
+expression-sequence-requires : (t : ℕ) → expression-lts.Need-sequence-requires (expression-calls t) (expression-at t)
+    expression.Post expression-Inv-loop expression-μ-loop
 expression-sequence-requires t c κs = (omega (arith, c .before .pre .0), tt)
 
-expression-returns : (t : ℕ) → expression-lts.Need-returns (expression-calls t) (expression-at t) expression.Post expression-Inv-loop expression-μ-loop
+expression-returns : (t : ℕ) → expression-lts.Need-returns (expression-calls t) (expression-at t) expression.Post
+    expression-Inv-loop expression-μ-loop
 expression-returns t c =
     expressions.expression-refused _ _ _ _ (expressions.expression-starts _ _ _ _ (c .before .before .sequence .ensures))
     (c .if1 .taken)
 
-expression-loop-holds : (t : ℕ) → expression-lts.Need-loop-holds (expression-calls t) (expression-at t) expression.Post expression-Inv-loop expression-μ-loop
+expression-loop-holds : (t : ℕ) → expression-lts.Need-loop-holds (expression-calls t) (expression-at t) expression.Post
+    expression-Inv-loop expression-μ-loop
 expression-loop-holds t c = (λ t h. h, c .if1 .left)
 
-expression-next-sequence-requires : (t : ℕ) → expression-lts.Need-next-sequence-requires (expression-calls t) (expression-at t) expression.Post expression-Inv-loop expression-μ-loop
+expression-next-sequence-requires : (t : ℕ) → expression-lts.Need-next-sequence-requires (expression-calls t) (expression-at t)
+    expression.Post expression-Inv-loop expression-μ-loop
 expression-next-sequence-requires t c κs = (expression-given t c) .within
 
-expression-enum-known-onward : (t : ℕ) → expression-lts.Need-enum-known-onward (expression-calls t) (expression-at t) expression.Post expression-Inv-loop expression-μ-loop
+expression-enum-known-onward : (t : ℕ) → expression-lts.Need-enum-known-onward (expression-calls t) (expression-at t)
+    expression.Post expression-Inv-loop expression-μ-loop
 expression-enum-known-onward t c = search needs
 
-expression-sub-sequence : (t : ℕ) → expression-lts.Need-sub-sequence (expression-calls t) (expression-at t) expression.Post expression-Inv-loop expression-μ-loop
+expression-sub-sequence : (t : ℕ) → expression-lts.Need-sub-sequence (expression-calls t) (expression-at t) expression.Post
+    expression-Inv-loop expression-μ-loop
 expression-sub-sequence t c = (expression-on t (c .before)) .fits
 
-expression-part-sequence-start : (t : ℕ) → expression-lts.Need-part-sequence-start (expression-calls t) (expression-at t) expression.Post expression-Inv-loop expression-μ-loop
+expression-part-sequence-start : (t : ℕ) → expression-lts.Need-part-sequence-start (expression-calls t) (expression-at t)
+    expression.Post expression-Inv-loop expression-μ-loop
 expression-part-sequence-start t c = (expression-on t (c .before)) .fits
 
-expression-part-sequence-end : (t : ℕ) → expression-lts.Need-part-sequence-end (expression-calls t) (expression-at t) expression.Post expression-Inv-loop expression-μ-loop
+expression-part-sequence-end : (t : ℕ) → expression-lts.Need-part-sequence-end (expression-calls t) (expression-at t)
+    expression.Post expression-Inv-loop expression-μ-loop
 expression-part-sequence-end t c = search needs
 
-expression-table-of-requires : (t : ℕ) → expression-lts.Need-table-of-requires (expression-calls t) (expression-at t) expression.Post expression-Inv-loop expression-μ-loop
+expression-table-of-requires : (t : ℕ) → expression-lts.Need-table-of-requires (expression-calls t) (expression-at t)
+    expression.Post expression-Inv-loop expression-μ-loop
 expression-table-of-requires t c κs = search needs
 
-expression-sequence-requires-2 : (t : ℕ) → expression-lts.Need-sequence-requires-2 (expression-calls t) (expression-at t) expression.Post expression-Inv-loop expression-μ-loop
-expression-sequence-requires-2 t c κs =
-    (rw (part-to-end, length-drop) (omega (arith, c .before .before .before .before .before .before .before .before .before .before .before .pre .0)), tt)
+expression-sequence-requires-2 : (t : ℕ) → expression-lts.Need-sequence-requires-2 (expression-calls t) (expression-at t)
+    expression.Post expression-Inv-loop expression-μ-loop
+expression-sequence-requires-2 t c κs = (
+  rw (part-to-end, length-drop) (omega (
+    arith,
+    c .before .before .before .before .before .before .before .before .before .before .before .pre .0,
+  )),
+  tt,
+)
 
-expression-returns-2 : (t : ℕ) → expression-lts.Need-returns-2 (expression-calls t) (expression-at t) expression.Post expression-Inv-loop expression-μ-loop
+expression-returns-2 : (t : ℕ) → expression-lts.Need-returns-2 (expression-calls t) (expression-at t) expression.Post
+    expression-Inv-loop expression-μ-loop
 expression-returns-2 t c =
     expressions.sequence-is-refused
     (c .before .before .before .before .before .before .before .before .before .before .before .before .before .before .args .s .now)
@@ -138,22 +198,51 @@ expression-returns-2 t c =
     (expression-on t (c .before .before .before .before .before .before)) _ (c .before .before .before .table-of .ensures) _
     (c .before .before .sequence2 .ensures) (c .if2 .taken)
 
-expression-or-read-requires : (t : ℕ) → expression-lts.Need-or-read-requires (expression-calls t) (expression-at t) expression.Post expression-Inv-loop expression-μ-loop
+expression-or-read-requires : (t : ℕ) → expression-lts.Need-or-read-requires (expression-calls t) (expression-at t)
+    expression.Post expression-Inv-loop expression-μ-loop
 expression-or-read-requires t c κs = search needs
 
-expression-loop-less : (t : ℕ) → expression-lts.Need-loop-less (expression-calls t) (expression-at t) expression.Post expression-Inv-loop expression-μ-loop
+expression-loop-less : (t : ℕ) → expression-lts.Need-loop-less (expression-calls t) (expression-at t) expression.Post
+    expression-Inv-loop expression-μ-loop
 expression-loop-less t c =
-    omega
-    (arith, expressions.sequence-shorter (c .before .before .before .before .before .before .before .before .before .before .before .before .before .before .before .args .s .now) (c .before .before .before .before .before .before .before .before .before .before .before .before .before .before .before .args .depth) (c .before .before .before .before .before .before .before .before .before .before .before .before .before .before .before .args .t) (c .before .before .before .before .before .before .before .before .before .before .loop .e) (expression-given t (c .before .before .before .before .before .before .before .before .before .before)) (c .before .before .before .before .before .before .before .before .before .before .loop .inv .1) (c .before .before .before .before .before .before .before .onward .given .0 .0) (expression-on t (c .before .before .before .before .before .before .before)) _ (c .before .before .before .before .table-of .ensures) _ (c .before .before .before .sequence2 .ensures) (c .before .if2 .left), ap (λ (r : Reading). r .left) (c .or-read .ensures))
+    omega (
+      arith,
+      expressions.sequence-shorter
+          (c .before .before .before .before .before .before .before .before .before .before .before .before .before .before .before .args .s .now)
+          (c .before .before .before .before .before .before .before .before .before .before .before .before .before .before .before .args .depth)
+          (c .before .before .before .before .before .before .before .before .before .before .before .before .before .before .before .args .t)
+          (c .before .before .before .before .before .before .before .before .before .before .loop .e) (expression-given t
+          (c .before .before .before .before .before .before .before .before .before .before))
+          (c .before .before .before .before .before .before .before .before .before .before .loop .inv .1)
+          (c .before .before .before .before .before .before .before .onward .given .0 .0) (expression-on t
+          (c .before .before .before .before .before .before .before)) _ (c .before .before .before .before .table-of .ensures) _
+          (c .before .before .before .sequence2 .ensures) (c .before .if2 .left),
+      ap (λ (r : Reading). r .left)
+          (c .or-read .ensures),
+    )
 
-expression-loop-again : (t : ℕ) → expression-lts.Need-loop-again (expression-calls t) (expression-at t) expression.Post expression-Inv-loop expression-μ-loop
-expression-loop-again t c =
-    (λ t h. expressions.expression-grows (c .before .before .before .before .before .before .before .before .before .before .before .before .before .before .before .args .s .now) (c .before .before .before .before .before .before .before .before .before .before .before .before .before .before .before .args .depth) t (c .before .before .before .before .before .before .before .before .before .before .loop .e) (c .before .before .before .before .before .before .before .before .before .before .loop .inv .0 t h) (c .before .before .before .before .before .before .before .before .before .before .loop .inv .1) (c .before .before .before .before .before .before .before .onward .given .0 .0) (expression-on _ (c .before .before .before .before .before .before .before)) _ (c .before .before .before .before .table-of .ensures) _ (c .before .before .before .sequence2 .ensures) (c .before .if2 .left) _ (c .or-read .ensures), ap (λ (r : Reading). r .number) (c .or-read .ensures) ∙ c .before .if2 .left)
+expression-loop-again : (t : ℕ) → expression-lts.Need-loop-again (expression-calls t) (expression-at t) expression.Post
+    expression-Inv-loop expression-μ-loop
+expression-loop-again t c = (
+  λ t h. expressions.expression-grows
+      (c .before .before .before .before .before .before .before .before .before .before .before .before .before .before .before .args .s .now)
+      (c .before .before .before .before .before .before .before .before .before .before .before .before .before .before .before .args .depth)
+      t (c .before .before .before .before .before .before .before .before .before .before .loop .e)
+      (c .before .before .before .before .before .before .before .before .before .before .loop .inv .0 t h)
+      (c .before .before .before .before .before .before .before .before .before .before .loop .inv .1)
+      (c .before .before .before .before .before .before .before .onward .given .0 .0) (expression-on _
+      (c .before .before .before .before .before .before .before)) _ (c .before .before .before .before .table-of .ensures) _
+      (c .before .before .before .sequence2 .ensures) (c .before .if2 .left) _ (c .or-read .ensures),
+  ap (λ (r : Reading).
+      r .number) (c .or-read .ensures) ∙ c .before .if2 .left,
+)
 
-expression-enum-told : (t : ℕ) → expression-lts.Need-enum-told (expression-calls t) (expression-at t) expression.Post expression-Inv-loop expression-μ-loop
+expression-enum-told : (t : ℕ) → expression-lts.Need-enum-told (expression-calls t) (expression-at t) expression.Post
+    expression-Inv-loop expression-μ-loop
 expression-enum-told t c = search needs
 
-expression-returns-3 : (t : ℕ) → expression-lts.Need-returns-3 (expression-calls t) (expression-at t) expression.Post expression-Inv-loop expression-μ-loop
+expression-returns-3 : (t : ℕ) → expression-lts.Need-returns-3 (expression-calls t) (expression-at t) expression.Post
+    expression-Inv-loop expression-μ-loop
 expression-returns-3 t c =
     expressions.expression-ends (c .before .before .before .before .before .before .before .before .args .s .now)
     (c .before .before .before .before .before .before .before .before .args .depth)
@@ -169,8 +258,12 @@ factor-enum-known-token t c = search needs
 
 factor-add-end : (t : ℕ) → factor-lts.Need-add-end (factor-calls t) (factor-at t) factor.Post
 factor-add-end t c =
-    omega
-    (arith, factors.name-fits (c .before .before .before .before .before .args .s .now) (c .before .before .before .next .result) (c .before .before .before .next .ensures) _ (c .before .token .given .1), c .before .before .before .before .before .good)
+    omega (
+      arith,
+      factors.name-fits (c .before .before .before .before .before .args .s .now)
+          (c .before .before .before .next .result) (c .before .before .before .next .ensures) _ (c .before .token .given .1),
+      c .before .before .before .before .before .good,
+    )
 
 factor-sub-place : (t : ℕ) → factor-lts.Need-sub-place (factor-calls t) (factor-at t) factor.Post
 factor-sub-place t c = omega arith
@@ -243,8 +336,19 @@ factor-add-expression : (t : ℕ) → factor-lts.Need-add-expression (factor-cal
 factor-add-expression t c = omega (arith, c .before .if2 .left)
 
 factor-expression-requires : (t : ℕ) → factor-lts.Need-expression-requires (factor-calls t) (factor-at t) factor.Post
-factor-expression-requires t c κs =
-    (rw (part-to-end, length-drop) (omega (arith, c .before .before .before .before .before .before .pre .0, factors.used-fits (c .before .before .before .before .before .before .args .s .now) (c .before .before .before .before .next .result) (c .before .before .before .before .next .ensures), factors.open-used (c .before .before .before .before .before .before .args .s .now) (c .before .before .before .before .next .result) (c .before .before .before .before .next .ensures) (c .before .before .enum-told .given .1))), tt)
+factor-expression-requires t c κs = (
+  rw (part-to-end, length-drop) (omega (
+    arith,
+    c .before .before .before .before .before .before .pre .0,
+    factors.used-fits
+        (c .before .before .before .before .before .before .args .s .now) (c .before .before .before .before .next .result)
+        (c .before .before .before .before .next .ensures),
+    factors.open-used
+        (c .before .before .before .before .before .before .args .s .now) (c .before .before .before .before .next .result)
+        (c .before .before .before .before .next .ensures) (c .before .before .enum-told .given .1),
+  )),
+  tt,
+)
 
 factor-close-requires : (t : ℕ) → factor-lts.Need-close-requires (factor-calls t) (factor-at t) factor.Post
 factor-close-requires t c κs =
@@ -295,13 +399,23 @@ sequence-Inv-loop s depth q₀ q =
 abbrev sequence-μ-loop : sequence-lts.MeasureT-loop
 sequence-μ-loop s depth q₀ q = q .left
 
-sequence-given : (t : ℕ) (c : sequence-lts.At-loop (sequence-calls t) (sequence-at t) sequence.Post sequence-Inv-loop sequence-μ-loop) → SequenceRead endsFactor (c .before .before .before .before .before .args .s .now) (c .before .before .before .before .before .args .depth) (c .before .before .before .before .before .args .t) (c .loop .q)
-sequence-given t c = c .loop .inv .0 (c .before .before .before .before .before .args .t) (sequences.sequence-starts (c .before .before .before .before .before .args .s .now) (c .before .before .before .before .before .args .depth) (c .before .before .before .before .before .args .t) (c .before .before .before .factor .result) (c .before .before .before .factor .ensures))
+sequence-given : (t : ℕ) (c : sequence-lts.At-loop (sequence-calls t) (sequence-at t) sequence.Post sequence-Inv-loop
+    sequence-μ-loop) → SequenceRead endsFactor (c .before .before .before .before .before .args .s .now)
+    (c .before .before .before .before .before .args .depth) (c .before .before .before .before .before .args .t) (c .loop .q)
+sequence-given t c = c .loop .inv .0 (c .before .before .before .before .before .args .t) (sequences.sequence-starts
+    (c .before .before .before .before .before .args .s .now) (c .before .before .before .before .before .args .depth)
+    (c .before .before .before .before .before .args .t) (c .before .before .before .factor .result)
+    (c .before .before .before .factor .ensures))
 
-sequence-on : (t : ℕ) (c : sequence-lts.After-onward (sequence-calls t) (sequence-at t) sequence.Post sequence-Inv-loop sequence-μ-loop) → Goes-on onward (c .before .before .before .before .before .before .before .before .args .s .now) (c .before .before .before .loop .q) (c .onward .given .0 .0)
-sequence-on t c = factor-follows (c .before .before .before .before .before .before .before .before .args .s .now) (c .before .before .before .loop .q) ((sequence-given t (c .before .before .before)) .within) (c .onward .given .0 .0) (sym (c .before .before .next-factor .ensures) ∙ c .onward .given .1)
+sequence-on : (t : ℕ) (c : sequence-lts.After-onward (sequence-calls t) (sequence-at t) sequence.Post sequence-Inv-loop
+    sequence-μ-loop) → Goes-on onward (c .before .before .before .before .before .before .before .before .args .s .now)
+    (c .before .before .before .loop .q) (c .onward .given .0 .0)
+sequence-on t c = factor-follows (c .before .before .before .before .before .before .before .before .args .s .now)
+    (c .before .before .before .loop .q) ((sequence-given t (c .before .before .before)) .within) (c .onward .given .0 .0) (sym
+    (c .before .before .next-factor .ensures) ∙ c .onward .given .1)
 
-sequence-factor-requires : (t : ℕ) → sequence-lts.Need-factor-requires (sequence-calls t) (sequence-at t) sequence.Post sequence-Inv-loop sequence-μ-loop
+sequence-factor-requires : (t : ℕ) → sequence-lts.Need-factor-requires (sequence-calls t) (sequence-at t) sequence.Post
+    sequence-Inv-loop sequence-μ-loop
 sequence-factor-requires t c κs = (omega (arith, c .before .pre .0), tt)
 
 sequence-returns : (t : ℕ) → sequence-lts.Need-returns (sequence-calls t) (sequence-at t) sequence.Post sequence-Inv-loop sequence-μ-loop
@@ -309,32 +423,46 @@ sequence-returns t c =
     sequences.sequence-refused _ _ _ endsFactor _ _ (sequences.sequence-starts _ _ _ _ (c .before .before .factor .ensures))
     (c .if1 .taken)
 
-sequence-loop-holds : (t : ℕ) → sequence-lts.Need-loop-holds (sequence-calls t) (sequence-at t) sequence.Post sequence-Inv-loop sequence-μ-loop
+sequence-loop-holds : (t : ℕ) → sequence-lts.Need-loop-holds (sequence-calls t) (sequence-at t) sequence.Post sequence-Inv-loop
+    sequence-μ-loop
 sequence-loop-holds t c = (λ t h. h, c .if1 .left)
 
-sequence-next-factor-requires : (t : ℕ) → sequence-lts.Need-next-factor-requires (sequence-calls t) (sequence-at t) sequence.Post sequence-Inv-loop sequence-μ-loop
+sequence-next-factor-requires : (t : ℕ) → sequence-lts.Need-next-factor-requires (sequence-calls t) (sequence-at t)
+    sequence.Post sequence-Inv-loop sequence-μ-loop
 sequence-next-factor-requires t c κs = (sequence-given t c) .within
 
-sequence-enum-known-onward : (t : ℕ) → sequence-lts.Need-enum-known-onward (sequence-calls t) (sequence-at t) sequence.Post sequence-Inv-loop sequence-μ-loop
+sequence-enum-known-onward : (t : ℕ) → sequence-lts.Need-enum-known-onward (sequence-calls t) (sequence-at t) sequence.Post
+    sequence-Inv-loop sequence-μ-loop
 sequence-enum-known-onward t c = search needs
 
-sequence-sub-factor : (t : ℕ) → sequence-lts.Need-sub-factor (sequence-calls t) (sequence-at t) sequence.Post sequence-Inv-loop sequence-μ-loop
+sequence-sub-factor : (t : ℕ) → sequence-lts.Need-sub-factor (sequence-calls t) (sequence-at t) sequence.Post sequence-Inv-loop
+    sequence-μ-loop
 sequence-sub-factor t c = (sequence-on t (c .before)) .fits
 
-sequence-part-factor-start : (t : ℕ) → sequence-lts.Need-part-factor-start (sequence-calls t) (sequence-at t) sequence.Post sequence-Inv-loop sequence-μ-loop
+sequence-part-factor-start : (t : ℕ) → sequence-lts.Need-part-factor-start (sequence-calls t) (sequence-at t) sequence.Post
+    sequence-Inv-loop sequence-μ-loop
 sequence-part-factor-start t c = (sequence-on t (c .before)) .fits
 
-sequence-part-factor-end : (t : ℕ) → sequence-lts.Need-part-factor-end (sequence-calls t) (sequence-at t) sequence.Post sequence-Inv-loop sequence-μ-loop
+sequence-part-factor-end : (t : ℕ) → sequence-lts.Need-part-factor-end (sequence-calls t) (sequence-at t) sequence.Post
+    sequence-Inv-loop sequence-μ-loop
 sequence-part-factor-end t c = search needs
 
-sequence-table-of-requires : (t : ℕ) → sequence-lts.Need-table-of-requires (sequence-calls t) (sequence-at t) sequence.Post sequence-Inv-loop sequence-μ-loop
+sequence-table-of-requires : (t : ℕ) → sequence-lts.Need-table-of-requires (sequence-calls t) (sequence-at t) sequence.Post
+    sequence-Inv-loop sequence-μ-loop
 sequence-table-of-requires t c κs = search needs
 
-sequence-factor-requires-2 : (t : ℕ) → sequence-lts.Need-factor-requires-2 (sequence-calls t) (sequence-at t) sequence.Post sequence-Inv-loop sequence-μ-loop
-sequence-factor-requires-2 t c κs =
-    (rw (part-to-end, length-drop) (omega (arith, c .before .before .before .before .before .before .before .before .before .before .before .pre .0)), tt)
+sequence-factor-requires-2 : (t : ℕ) → sequence-lts.Need-factor-requires-2 (sequence-calls t) (sequence-at t) sequence.Post
+    sequence-Inv-loop sequence-μ-loop
+sequence-factor-requires-2 t c κs = (
+  rw (part-to-end, length-drop) (omega (
+    arith,
+    c .before .before .before .before .before .before .before .before .before .before .before .pre .0,
+  )),
+  tt,
+)
 
-sequence-returns-2 : (t : ℕ) → sequence-lts.Need-returns-2 (sequence-calls t) (sequence-at t) sequence.Post sequence-Inv-loop sequence-μ-loop
+sequence-returns-2 : (t : ℕ) → sequence-lts.Need-returns-2 (sequence-calls t) (sequence-at t) sequence.Post sequence-Inv-loop
+    sequence-μ-loop
 sequence-returns-2 t c =
     sequences.factor-refused
     (c .before .before .before .before .before .before .before .before .before .before .before .before .before .before .args .s .now)
@@ -347,22 +475,51 @@ sequence-returns-2 t c =
     (sequence-on t (c .before .before .before .before .before .before)) _ (c .before .before .before .table-of .ensures) _
     (c .before .before .factor2 .ensures) (c .if2 .taken)
 
-sequence-then-read-requires : (t : ℕ) → sequence-lts.Need-then-read-requires (sequence-calls t) (sequence-at t) sequence.Post sequence-Inv-loop sequence-μ-loop
+sequence-then-read-requires : (t : ℕ) → sequence-lts.Need-then-read-requires (sequence-calls t) (sequence-at t) sequence.Post
+    sequence-Inv-loop sequence-μ-loop
 sequence-then-read-requires t c κs = search needs
 
-sequence-loop-less : (t : ℕ) → sequence-lts.Need-loop-less (sequence-calls t) (sequence-at t) sequence.Post sequence-Inv-loop sequence-μ-loop
+sequence-loop-less : (t : ℕ) → sequence-lts.Need-loop-less (sequence-calls t) (sequence-at t) sequence.Post sequence-Inv-loop
+    sequence-μ-loop
 sequence-loop-less t c =
-    omega
-    (arith, sequences.factor-shorter (c .before .before .before .before .before .before .before .before .before .before .before .before .before .before .before .args .s .now) (c .before .before .before .before .before .before .before .before .before .before .before .before .before .before .before .args .depth) (c .before .before .before .before .before .before .before .before .before .before .before .before .before .before .before .args .t) (c .before .before .before .before .before .before .before .before .before .before .loop .q) (sequence-given t (c .before .before .before .before .before .before .before .before .before .before)) (c .before .before .before .before .before .before .before .before .before .before .loop .inv .1) (c .before .before .before .before .before .before .before .onward .given .0 .0) (sequence-on t (c .before .before .before .before .before .before .before)) _ (c .before .before .before .before .table-of .ensures) _ (c .before .before .before .factor2 .ensures) (c .before .if2 .left), ap (λ (r : Reading). r .left) (c .then-read .ensures))
+    omega (
+      arith,
+      sequences.factor-shorter
+          (c .before .before .before .before .before .before .before .before .before .before .before .before .before .before .before .args .s .now)
+          (c .before .before .before .before .before .before .before .before .before .before .before .before .before .before .before .args .depth)
+          (c .before .before .before .before .before .before .before .before .before .before .before .before .before .before .before .args .t)
+          (c .before .before .before .before .before .before .before .before .before .before .loop .q) (sequence-given t
+          (c .before .before .before .before .before .before .before .before .before .before))
+          (c .before .before .before .before .before .before .before .before .before .before .loop .inv .1)
+          (c .before .before .before .before .before .before .before .onward .given .0 .0) (sequence-on t
+          (c .before .before .before .before .before .before .before)) _ (c .before .before .before .before .table-of .ensures) _
+          (c .before .before .before .factor2 .ensures) (c .before .if2 .left),
+      ap (λ (r : Reading). r .left)
+          (c .then-read .ensures),
+    )
 
-sequence-loop-again : (t : ℕ) → sequence-lts.Need-loop-again (sequence-calls t) (sequence-at t) sequence.Post sequence-Inv-loop sequence-μ-loop
-sequence-loop-again t c =
-    (λ t h. sequences.sequence-grows (c .before .before .before .before .before .before .before .before .before .before .before .before .before .before .before .args .s .now) (c .before .before .before .before .before .before .before .before .before .before .before .before .before .before .before .args .depth) t (c .before .before .before .before .before .before .before .before .before .before .loop .q) (c .before .before .before .before .before .before .before .before .before .before .loop .inv .0 t h) (c .before .before .before .before .before .before .before .before .before .before .loop .inv .1) (c .before .before .before .before .before .before .before .onward .given .0 .0) (sequence-on _ (c .before .before .before .before .before .before .before)) _ (c .before .before .before .before .table-of .ensures) _ (c .before .before .before .factor2 .ensures) (c .before .if2 .left) _ (c .then-read .ensures), ap (λ (r : Reading). r .number) (c .then-read .ensures) ∙ c .before .if2 .left)
+sequence-loop-again : (t : ℕ) → sequence-lts.Need-loop-again (sequence-calls t) (sequence-at t) sequence.Post sequence-Inv-loop
+    sequence-μ-loop
+sequence-loop-again t c = (
+  λ t h. sequences.sequence-grows
+      (c .before .before .before .before .before .before .before .before .before .before .before .before .before .before .before .args .s .now)
+      (c .before .before .before .before .before .before .before .before .before .before .before .before .before .before .before .args .depth)
+      t (c .before .before .before .before .before .before .before .before .before .before .loop .q)
+      (c .before .before .before .before .before .before .before .before .before .before .loop .inv .0 t h)
+      (c .before .before .before .before .before .before .before .before .before .before .loop .inv .1)
+      (c .before .before .before .before .before .before .before .onward .given .0 .0) (sequence-on _
+      (c .before .before .before .before .before .before .before)) _ (c .before .before .before .before .table-of .ensures) _
+      (c .before .before .before .factor2 .ensures) (c .before .if2 .left) _ (c .then-read .ensures),
+  ap (λ (r : Reading).
+      r .number) (c .then-read .ensures) ∙ c .before .if2 .left,
+)
 
-sequence-enum-told : (t : ℕ) → sequence-lts.Need-enum-told (sequence-calls t) (sequence-at t) sequence.Post sequence-Inv-loop sequence-μ-loop
+sequence-enum-told : (t : ℕ) → sequence-lts.Need-enum-told (sequence-calls t) (sequence-at t) sequence.Post sequence-Inv-loop
+    sequence-μ-loop
 sequence-enum-told t c = search needs
 
-sequence-returns-3 : (t : ℕ) → sequence-lts.Need-returns-3 (sequence-calls t) (sequence-at t) sequence.Post sequence-Inv-loop sequence-μ-loop
+sequence-returns-3 : (t : ℕ) → sequence-lts.Need-returns-3 (sequence-calls t) (sequence-at t) sequence.Post sequence-Inv-loop
+    sequence-μ-loop
 sequence-returns-3 t c =
     sequences.sequence-ends (c .before .before .before .before .before .before .before .before .args .s .now)
     (c .before .before .before .before .before .before .before .before .args .depth)

@@ -1,3 +1,4 @@
+-- `readers::close` meets its contract: each way through it is a lemma of Closing.
 use borrow.Author.Needs.{needs}
 use borrow.Author.Tests.{ne-eqb}
 use Rattle.compiler.specs.Reading.{closed}
@@ -37,7 +38,9 @@ enum-told c = search needs
 
 -- src/readers.rt:186:19
 sub-t15 : tie.Need-sub-t15
-sub-t15 c = used-behind (c .before .before .before .before .before .before .before .before .before .args .s .now) (c .before .before .before .before .before .before .before .before .before .args .e) _ (c .before .before .before .next .ensures) (c .before .before .before .before .before .before .before .before .before .pre)
+sub-t15 c = used-behind (c .before .before .before .before .before .before .before .before .before .args .s .now)
+    (c .before .before .before .before .before .before .before .before .before .args .e) _
+    (c .before .before .before .next .ensures) (c .before .before .before .before .before .before .before .before .before .pre)
 
 -- src/readers.rt:191:18
 refusal-of-requires : tie.Need-refusal-of-requires
@@ -45,7 +48,10 @@ refusal-of-requires c κs = search needs
 
 -- src/readers.rt:191:36
 sub-halt : tie.Need-sub-halt
-sub-halt c = start-behind (c .before .before .before .before .before .before .before .before .before .before .args .s .now) (c .before .before .before .before .before .before .before .before .before .before .args .e) _ (c .before .before .before .before .next .ensures) (c .before .before .before .before .before .before .before .before .before .before .pre)
+sub-halt c = start-behind (c .before .before .before .before .before .before .before .before .before .before .args .s .now)
+    (c .before .before .before .before .before .before .before .before .before .before .args .e) _
+    (c .before .before .before .before .next .ensures)
+    (c .before .before .before .before .before .before .before .before .before .before .pre)
 
 -- src/readers.rt:191:13
 halt-requires : tie.Need-halt-requires
@@ -53,12 +59,18 @@ halt-requires c κs = search needs
 
 -- src/readers.rt:171:1
 returns-2 : tie.Need-returns-2
-returns-2 c = closed-closes (c .before .before .before .before .before .before .before .before .before .args .s .now) (c .before .before .before .before .before .before .before .before .before .args .e) _ (c .before .before .before .next .ensures) (c .before .before .before .before .before .before .if1 .left) (c .before .enum-told .given .1)
+returns-2 c = closed-closes (c .before .before .before .before .before .before .before .before .before .args .s .now)
+    (c .before .before .before .before .before .before .before .before .before .args .e) _
+    (c .before .before .before .next .ensures) (c .before .before .before .before .before .before .if1 .left)
+    (c .before .enum-told .given .1)
 
 -- src/readers.rt:171:1
 returns-3 : tie.Need-returns-3
 returns-3 c =
-    closed-halts (c .before .before .before .before .before .before .before .before .before .before .before .args .s .now) (c .before .before .before .before .before .before .before .before .before .before .before .args .e) _ (c .before .before .before .before .before .next .ensures) _ (c .before .before .before .before .before .before .before .before .if1 .left)
+    closed-halts (c .before .before .before .before .before .before .before .before .before .before .before .args .s .now)
+    (c .before .before .before .before .before .before .before .before .before .before .before .args .e) _
+    (c .before .before .before .before .before .next .ensures) _
+    (c .before .before .before .before .before .before .before .before .if1 .left)
     (not-close (c .before .before .before .before .before .next .result .token) (c .before .before .before .before .match .keys2))
     (simp (c .halt .ensures, c .before .before .refusal-of .ensures))
 

@@ -48,7 +48,10 @@ expression-requires c κs = search needs
 
 -- src/readers.rt:372:13
 end-requires : tie.Need-end-requires
-end-requires c κs = (inside-fits _ _ (c .before .before .before .before .before .next .ensures) _ _ _ (c .expression .ensures), omega (arith, c .before .before .before .before .before .before .if1 .left))
+end-requires c κs = (
+  inside-fits _ _ (c .before .before .before .before .before .next .ensures) _ _ _ (c .expression .ensures),
+  omega (arith, c .before .before .before .before .before .before .if1 .left),
+)
 
 -- src/readers.rt:374:21
 refusal-of-requires : tie.Need-refusal-of-requires
@@ -62,14 +65,18 @@ refuse-requires-2 c κs = search needs
 returns-2 : tie.Need-returns-2
 returns-2 c =
     compiles _ _
-    (starts-with-path _ (omega (arith, c .before .before .before .before .before .before .before .if1 .left)) _ (c .before .before .before .before .before .before .next .ensures) (c .before .before .before .before .enum-told .given .1) _ _
+    (starts-with-path _ (omega (arith, c .before .before .before .before .before .before .before .if1 .left)) _
+    (c .before .before .before .before .before .before .next .ensures)
+    (c .before .before .before .before .enum-told .given .1) _ _
     (c .before .before .table-of-zeros .ensures) (c .before .expression .ensures) _ (c .end .ensures))
 
 -- src/readers.rt:360:1
 returns-3 : tie.Need-returns-3
 returns-3 c =
     compiles _ _
-    (compile-not-path _ (omega (arith, c .before .before .before .before .if1 .left)) _ (c .before .before .before .next .ensures) (not-path (c .before .before .before .next .result .token) (c .before .before .match .keys2)) _
+    (compile-not-path _ (omega (arith, c .before .before .before .before .if1 .left)) _
+    (c .before .before .before .next .ensures) (not-path (c .before .before .before .next .result .token)
+    (c .before .before .match .keys2)) _
     (simp (c .refuse2 .ensures, c .before .refusal-of .ensures)))
 
 pub compile-spec : {M : Type 1} → statement M

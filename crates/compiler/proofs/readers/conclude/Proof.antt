@@ -1,3 +1,4 @@
+-- `readers::conclude` meets its contract: the text ends, or what stands there is refused (Concluding).
 use borrow.Author.Needs.{needs}
 use native.Mathlib.Omega.{arith}
 use Rattle.compiler.proofs.Arms.{not-text-end}
@@ -37,7 +38,8 @@ returns c = concluded-accepts _ _ _ _ (c .before .before .before .next .ensures)
 -- src/readers.rt:313:1
 returns-2 : tie.Need-returns-2
 returns-2 c =
-    concluded-refuses _ _ _ _ (c .before .before .before .before .next .ensures) (not-text-end (c .before .before .before .before .next .result .token) (c .before .before .before .match .keys2)) _
+    concluded-refuses _ _ _ _ (c .before .before .before .before .next .ensures) (not-text-end
+    (c .before .before .before .before .next .result .token) (c .before .before .before .match .keys2)) _
     (simp (c .refuse .ensures, c .before .before .refusal-of .ensures))
 
 pub conclude-spec : {M : Type 1} → statement M

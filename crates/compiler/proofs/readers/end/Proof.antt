@@ -1,3 +1,4 @@
+-- `readers::end` meets its contract: each way through it is a lemma of Concluding.
 use borrow.Author.Needs.{needs}
 use native.Mathlib.Omega.{arith}
 use Rattle.compiler.proofs.Arms.{not-end}
@@ -39,15 +40,28 @@ enum-told c = search needs
 
 -- src/readers.rt:346:24
 add-from : tie.Need-add-from
-add-from c = omega (arith, end-fits (c .before .before .before .before .before .before .before .before .before .args .text .now) (c .before .before .before .before .before .before .before .before .before .args .e) (c .before .before .before .before .before .before .if1 .left) _ (c .before .before .before .next .ensures) (c .before .before .before .before .before .before .before .before .before .pre .0), c .before .before .before .before .before .before .before .before .before .pre .1)
+add-from c = omega (
+  arith,
+  end-fits (c .before .before .before .before .before .before .before .before .before .args .text .now)
+      (c .before .before .before .before .before .before .before .before .before .args .e)
+      (c .before .before .before .before .before .before .if1 .left) _ (c .before .before .before .next .ensures)
+      (c .before .before .before .before .before .before .before .before .before .pre .0),
+  c .before .before .before .before .before .before .before .before .before .pre .1,
+)
 
 -- src/readers.rt:347:22
 sub-conclude : tie.Need-sub-conclude
-sub-conclude c = end-fits (c .before .before .before .before .before .before .before .before .before .args .text .now) (c .before .before .before .before .before .before .before .before .before .args .e) (c .before .before .before .before .before .before .if1 .left) _ (c .before .before .before .next .ensures) (c .before .before .before .before .before .before .before .before .before .pre .0)
+sub-conclude c = end-fits (c .before .before .before .before .before .before .before .before .before .args .text .now)
+    (c .before .before .before .before .before .before .before .before .before .args .e)
+    (c .before .before .before .before .before .before .if1 .left) _ (c .before .before .before .next .ensures)
+    (c .before .before .before .before .before .before .before .before .before .pre .0)
 
 -- src/readers.rt:347:22
 part-conclude-start : tie.Need-part-conclude-start
-part-conclude-start c = end-fits (c .before .before .before .before .before .before .before .before .before .args .text .now) (c .before .before .before .before .before .before .before .before .before .args .e) (c .before .before .before .before .before .before .if1 .left) _ (c .before .before .before .next .ensures) (c .before .before .before .before .before .before .before .before .before .pre .0)
+part-conclude-start c = end-fits (c .before .before .before .before .before .before .before .before .before .args .text .now)
+    (c .before .before .before .before .before .before .before .before .before .args .e)
+    (c .before .before .before .before .before .before .if1 .left) _ (c .before .before .before .next .ensures)
+    (c .before .before .before .before .before .before .before .before .before .pre .0)
 
 -- src/readers.rt:347:22
 part-conclude-end : tie.Need-part-conclude-end
@@ -55,7 +69,15 @@ part-conclude-end c = search needs
 
 -- src/readers.rt:347:13
 conclude-requires : tie.Need-conclude-requires
-conclude-requires c κs = omega (arith, rest-fits (c .before .before .before .before .before .before .before .before .before .before .args .text .now) (c .before .before .before .before .before .before .before .before .before .before .args .e) (c .before .before .before .before .before .before .before .if1 .left) _ (c .before .before .before .before .next .ensures) (c .before .before .before .before .before .before .before .before .before .before .pre .0), c .before .before .before .before .before .before .before .before .before .before .pre .1)
+conclude-requires c κs = omega (
+  arith,
+  rest-fits
+      (c .before .before .before .before .before .before .before .before .before .before .args .text .now)
+      (c .before .before .before .before .before .before .before .before .before .before .args .e)
+      (c .before .before .before .before .before .before .before .if1 .left) _ (c .before .before .before .before .next .ensures)
+      (c .before .before .before .before .before .before .before .before .before .before .pre .0),
+  c .before .before .before .before .before .before .before .before .before .before .pre .1,
+)
 
 -- src/readers.rt:349:21
 refusal-of-requires : tie.Need-refusal-of-requires
@@ -63,7 +85,15 @@ refusal-of-requires c κs = search needs
 
 -- src/readers.rt:349:39
 add-refuse : tie.Need-add-refuse
-add-refuse c = omega (arith, end-starts (c .before .before .before .before .before .before .before .before .before .args .text .now) (c .before .before .before .before .before .before .before .before .before .args .e) (c .before .before .before .before .before .before .if1 .left) _ (c .before .before .before .next .ensures) (c .before .before .before .before .before .before .before .before .before .pre .0), c .before .before .before .before .before .before .before .before .before .pre .1)
+add-refuse c = omega (
+  arith,
+  end-starts
+      (c .before .before .before .before .before .before .before .before .before .args .text .now)
+      (c .before .before .before .before .before .before .before .before .before .args .e)
+      (c .before .before .before .before .before .before .if1 .left) _ (c .before .before .before .next .ensures)
+      (c .before .before .before .before .before .before .before .before .before .pre .0),
+  c .before .before .before .before .before .before .before .before .before .pre .1,
+)
 
 -- src/readers.rt:349:14
 refuse-requires-2 : tie.Need-refuse-requires-2
@@ -71,12 +101,16 @@ refuse-requires-2 c κs = search needs
 
 -- src/readers.rt:332:1
 returns-2 : tie.Need-returns-2
-returns-2 c = ended-ends _ _ (c .before .before .before .before .before .before .before .before .if1 .left) _ (c .before .before .before .before .before .next .ensures) (c .before .before .before .enum-told .given .1) _ (c .conclude .ensures)
+returns-2 c = ended-ends _ _ (c .before .before .before .before .before .before .before .before .if1 .left) _
+    (c .before .before .before .before .before .next .ensures) (c .before .before .before .enum-told .given .1) _
+    (c .conclude .ensures)
 
 -- src/readers.rt:332:1
 returns-3 : tie.Need-returns-3
 returns-3 c =
-    ended-refuses _ _ (c .before .before .before .before .before .before .before .if1 .left) _ (c .before .before .before .before .next .ensures) (not-end (c .before .before .before .before .next .result .token) (c .before .before .before .match .keys2)) _
+    ended-refuses _ _ (c .before .before .before .before .before .before .before .if1 .left) _
+    (c .before .before .before .before .next .ensures) (not-end (c .before .before .before .before .next .result .token)
+    (c .before .before .before .match .keys2)) _
     (simp (c .refuse2 .ensures, c .before .before .refusal-of .ensures))
 
 pub end-spec : {M : Type 1} → statement M

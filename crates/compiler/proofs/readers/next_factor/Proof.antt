@@ -1,3 +1,4 @@
+-- `readers::next_factor` meets its contract: arm by arm, by the token that it reads (Onwards).
 use borrow.Author.Needs.{needs}
 use mathlib.Core.Path.{refl, sym}
 use native.Mathlib.Omega.{arith}
@@ -33,7 +34,13 @@ enum-told c = search needs
 
 -- src/readers.rt:121:40
 add-t11 : tie.Need-add-t11
-add-t11 c = omega (arith, next-fits (c .before .before .before .before .before .before .args .s .now) (c .before .before .before .before .before .before .args .left) _ (c .before .before .before .next .ensures) (c .before .before .before .before .before .before .pre), c .before .before .before .before .before .before .good)
+add-t11 c = omega (
+  arith,
+  next-fits (c .before .before .before .before .before .before .args .s .now)
+      (c .before .before .before .before .before .before .args .left) _ (c .before .before .before .next .ensures)
+      (c .before .before .before .before .before .before .pre),
+  c .before .before .before .before .before .before .good,
+)
 
 -- src/readers.rt:122:27
 enum-told-2 : tie.Need-enum-told-2
@@ -45,20 +52,27 @@ enum-told-3 c = search needs
 
 -- src/readers.rt:113:1
 returns : tie.Need-returns
-returns c = goes-by (c .before .before .before .before .before .before .args .s .now) (c .before .before .before .before .before .before .args .left) _ (c .before .before .before .next .ensures) factorBy _ (c .before .enum-told .given .1) _ refl
+returns c = goes-by (c .before .before .before .before .before .before .args .s .now)
+    (c .before .before .before .before .before .before .args .left) _ (c .before .before .before .next .ensures) factorBy _
+    (c .before .enum-told .given .1) _ refl
 
 -- src/readers.rt:113:1
 returns-2 : tie.Need-returns-2
-returns-2 c = goes-by (c .before .before .before .before .before .args .s .now) (c .before .before .before .before .before .args .left) _ (c .before .before .next .ensures) factorBy _ (c .enum-told2 .given .1) _ refl
+returns-2 c = goes-by (c .before .before .before .before .before .args .s .now)
+    (c .before .before .before .before .before .args .left) _ (c .before .before .next .ensures) factorBy _
+    (c .enum-told2 .given .1) _ refl
 
 -- src/readers.rt:113:1
 returns-3 : tie.Need-returns-3
-returns-3 c = goes-by (c .before .before .before .before .before .args .s .now) (c .before .before .before .before .before .args .left) _ (c .before .before .next .ensures) factorBy _ (c .enum-told3 .given .1) _ refl
+returns-3 c = goes-by (c .before .before .before .before .before .args .s .now)
+    (c .before .before .before .before .before .args .left) _ (c .before .before .next .ensures) factorBy _
+    (c .enum-told3 .given .1) _ refl
 
 -- src/readers.rt:113:1
 returns-4 : tie.Need-returns-4
 returns-4 c =
-    goes-by (c .before .before .before .before .args .s .now) (c .before .before .before .before .args .left) _ (c .before .next .ensures) factorBy _ refl _
+    goes-by (c .before .before .before .before .args .s .now) (c .before .before .before .before .args .left) _
+    (c .before .next .ensures) factorBy _ refl _
     (sym (no-factor-there (c .before .next .result .token) _ _ (c .match .keys4)))
 
 pub next-factor-spec : {M : Type 1} → statement M

@@ -1,3 +1,4 @@
+-- `readers::next_sequence` meets its contract: arm by arm, by the token that it reads (Onwards).
 use borrow.Author.Needs.{needs}
 use mathlib.Core.Path.{refl, sym}
 use native.Mathlib.Omega.{arith}
@@ -33,16 +34,25 @@ enum-told c = search needs
 
 -- src/readers.rt:137:35
 add-t11 : tie.Need-add-t11
-add-t11 c = omega (arith, next-fits (c .before .before .before .before .before .before .args .s .now) (c .before .before .before .before .before .before .args .left) _ (c .before .before .before .next .ensures) (c .before .before .before .before .before .before .pre), c .before .before .before .before .before .before .good)
+add-t11 c = omega (
+  arith,
+  next-fits (c .before .before .before .before .before .before .args .s .now)
+      (c .before .before .before .before .before .before .args .left) _ (c .before .before .before .next .ensures)
+      (c .before .before .before .before .before .before .pre),
+  c .before .before .before .before .before .before .good,
+)
 
 -- src/readers.rt:129:1
 returns : tie.Need-returns
-returns c = goes-by (c .before .before .before .before .before .before .args .s .now) (c .before .before .before .before .before .before .args .left) _ (c .before .before .before .next .ensures) sequenceBy _ (c .before .enum-told .given .1) _ refl
+returns c = goes-by (c .before .before .before .before .before .before .args .s .now)
+    (c .before .before .before .before .before .before .args .left) _ (c .before .before .before .next .ensures) sequenceBy _
+    (c .before .enum-told .given .1) _ refl
 
 -- src/readers.rt:129:1
 returns-2 : tie.Need-returns-2
 returns-2 c =
-    goes-by (c .before .before .before .before .args .s .now) (c .before .before .before .before .args .left) _ (c .before .next .ensures) sequenceBy _ refl _
+    goes-by (c .before .before .before .before .args .s .now) (c .before .before .before .before .args .left) _
+    (c .before .next .ensures) sequenceBy _ refl _
     (sym (no-sequence-there (c .before .next .result .token) _ _ (c .match .keys2)))
 
 pub next-sequence-spec : {M : Type 1} → statement M

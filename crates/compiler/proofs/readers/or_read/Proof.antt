@@ -1,3 +1,4 @@
+-- `readers::or_read` meets its contract, by that of `either_part`.
 use borrow.Author.Needs.{needs}
 use Rattle.compiler.proofs.readers.or_read.Statement.{statement}
 use Rattle.compiler.proofs.readers.or_read.Tie as tie

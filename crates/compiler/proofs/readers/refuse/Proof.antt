@@ -1,3 +1,4 @@
+-- `readers::refuse` meets its contract, by that of `table_of_zeros`.
 use borrow.Author.Needs.{needs}
 use Rattle.compiler.proofs.readers.refuse.Statement.{statement}
 use Rattle.compiler.proofs.readers.refuse.Tie as tie

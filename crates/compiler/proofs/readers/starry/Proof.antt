@@ -1,3 +1,4 @@
+-- `readers::starry` meets its contract: refused, plain or starred (Starry).
 use borrow.Author.Needs.{needs}
 use Rattle.compiler.proofs.Starry.{starry-refused, starry-plain, starry-starred, stars-fit}
 use Rattle.compiler.proofs.readers.starry.Statement.{statement}
@@ -33,17 +34,24 @@ star-part-requires c κs = search needs
 
 -- src/readers.rt:163:19
 sub-t13 : tie.Need-sub-t13
-sub-t13 c = stars-fit (c .before .before .before .before .before .before .before .before .before .args .s .now) (c .before .before .before .before .before .before .before .before .before .args .p) _ (c .before .before .before .before .before .before .if1 .left) (c .before .before .before .before .before .before .before .before .before .pre) (c .before .before .before .before .stars .ensures)
+sub-t13 c = stars-fit (c .before .before .before .before .before .before .before .before .before .args .s .now)
+    (c .before .before .before .before .before .before .before .before .before .args .p) _
+    (c .before .before .before .before .before .before .if1 .left)
+    (c .before .before .before .before .before .before .before .before .before .pre)
+    (c .before .before .before .before .stars .ensures)
 
 -- src/readers.rt:161:9
 returns-2 : tie.Need-returns-2
 returns-2 c =
-    starry-starred _ _ _ (c .before .before .before .before .before .before .if1 .left) (c .before .before .before .before .before .before .before .before .before .pre) (c .before .before .before .before .stars .ensures) _ (c .before .before .before .if2 .taken)
+    starry-starred _ _ _ (c .before .before .before .before .before .before .if1 .left)
+    (c .before .before .before .before .before .before .before .before .before .pre)
+    (c .before .before .before .before .stars .ensures) _ (c .before .before .before .if2 .taken)
     (simp (c .before .star-part .ensures))
 
 -- src/readers.rt:148:1
 returns-3 : tie.Need-returns-3
-returns-3 c = starry-plain _ _ _ (c .before .before .before .if1 .left) (c .before .before .before .before .before .before .pre) (c .before .stars .ensures) (c .if2 .left)
+returns-3 c = starry-plain _ _ _ (c .before .before .before .if1 .left) (c .before .before .before .before .before .before .pre)
+    (c .before .stars .ensures) (c .if2 .left)
 
 pub starry-spec : {M : Type 1} → statement M
 starry-spec =

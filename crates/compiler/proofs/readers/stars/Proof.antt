@@ -35,7 +35,11 @@ enum-told c = search needs
 add-used : tie.Need-add-used Inv-loop μ-loop
 add-used c =
     let l = c .before .before .before .before .before .loop in
-    omega (arith, star-fits _ _ _ (l .inv) _ (c .before .before .before .next .ensures), c .before .before .before .before .before .before .before .good)
+    omega (
+      arith,
+      star-fits _ _ _ (l .inv) _ (c .before .before .before .next .ensures),
+      c .before .before .before .before .before .before .before .good,
+    )
 
 loop-less : tie.Need-loop-less Inv-loop μ-loop
 loop-less c =
@@ -44,10 +48,12 @@ loop-less c =
     omega (arith, star-fits _ _ _ (l .inv) _ told, star-is-some _ _ _ (l .inv) _ told (c .before .enum-told .given .1))
 
 loop-again : tie.Need-loop-again Inv-loop μ-loop
-loop-again c = star-more _ _ _ (c .before .before .before .before .before .loop .inv) _ (c .before .before .before .next .ensures) (c .before .enum-told .given .1)
+loop-again c = star-more _ _ _ (c .before .before .before .before .before .loop .inv) _
+    (c .before .before .before .next .ensures) (c .before .enum-told .given .1)
 
 returns : tie.Need-returns Inv-loop μ-loop
-returns c = stars-end _ _ _ (c .before .before .before .loop .inv) _ (c .before .next .ensures) (not-star (c .before .next .result .token) (c .match .keys2))
+returns c = stars-end _ _ _ (c .before .before .before .loop .inv) _ (c .before .next .ensures) (not-star
+    (c .before .next .result .token) (c .match .keys2))
 
 pub stars-spec : {M : Type 1} → statement M
 stars-spec =

@@ -1,3 +1,4 @@
+-- `readers::then_read` meets its contract, by that of `then_part`.
 use borrow.Author.Needs.{needs}
 use Rattle.compiler.proofs.readers.then_read.Statement.{statement}
 use Rattle.compiler.proofs.readers.then_read.Tie as tie

@@ -1,3 +1,4 @@
+-- `joining::complete` meets its contract, by those of `follow` and `mark_of`.
 use borrow.Author.Needs.{needs}
 use Rattle.parts.specs.Parts.{completed}
 use Rattle.parts.proofs.joining.complete.Statement.{statement}

@@ -1,3 +1,4 @@
+-- `joining::either_part` meets its contract: field by field, by what its callees ensure.
 use borrow.Author.Needs.{needs}
 use Rattle.parts.proofs.joining.either_part.Statement.{statement}
 use Rattle.parts.proofs.joining.either_part.Tie as tie

@@ -1,3 +1,4 @@
+-- `joining::follow` meets its contract, by that of `link`.
 use borrow.Author.Needs.{needs}
 use Rattle.parts.proofs.joining.follow.Statement.{statement}
 use Rattle.parts.proofs.joining.follow.Tie as tie

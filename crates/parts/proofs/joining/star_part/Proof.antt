@@ -1,3 +1,4 @@
+-- `joining::star_part` meets its contract, by that of `follow`.
 use borrow.Author.Needs.{needs}
 use Rattle.parts.proofs.joining.star_part.Statement.{statement}
 use Rattle.parts.proofs.joining.star_part.Tie as tie

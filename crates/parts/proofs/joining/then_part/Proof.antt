@@ -1,3 +1,4 @@
+-- `joining::then_part` meets its contract: field by field, by what its callees ensure.
 use borrow.Author.Needs.{needs}
 use Rattle.parts.proofs.joining.then_part.Statement.{statement}
 use Rattle.parts.proofs.joining.then_part.Tie as tie
@@ -20,7 +21,12 @@ choose-requires-2 c κs = search needs
 
 -- src/joining.rt:72:1
 returns : tie.Need-returns
-returns c = simp (c .before .before .before .before .before .before .before .follow .ensures, c .before .before .before .before .before .before .both .ensures, c .before .before .before .choose .ensures, c .choose2 .ensures)
+returns c = simp (
+  c .before .before .before .before .before .before .before .follow .ensures,
+  c .before .before .before .before .before .before .both .ensures,
+  c .before .before .before .choose .ensures,
+  c .choose2 .ensures,
+)
 
 pub then-part-spec : {M : Type 1} → statement M
 then-part-spec =

@@ -1,3 +1,4 @@
+-- `placing::place` meets its contract: each way through it is a lemma of PlacePaths.
 use borrow.Author.Needs.{needs}
 use Rattle.parts.proofs.PlacePaths.{placed-long, placed-full, placed-known, placed-one-too-many, placed-new}
 use Rattle.parts.proofs.placing.place.Statement.{statement}
@@ -42,7 +43,10 @@ refuse-requires-3 c κs = search needs
 -- src/placing.rt:112:17
 returns-3 : tie.Need-returns-3
 returns-3 c =
-    placed-one-too-many _ _ _ (c .before .before .before .before .before .before .before .before .before .if1 .left) (c .before .before .before .before .before .before .before .if2 .left) _ (c .before .before .before .before .find .ensures) (c .before .before .enum-told .given .1) (c .before .if3 .taken) (c .refuse3 .ensures)
+    placed-one-too-many _ _ _ (c .before .before .before .before .before .before .before .before .before .if1 .left)
+    (c .before .before .before .before .before .before .before .if2 .left) _
+    (c .before .before .before .before .find .ensures) (c .before .before .enum-told .given .1) (c .before .if3 .taken)
+    (c .refuse3 .ensures)
 
 -- src/placing.rt:114:27
 with-name-requires : tie.Need-with-name-requires
@@ -58,12 +62,17 @@ with-position-requires-2 c κs = rw (c .with-name .ensures) (c .before .before .
 
 -- src/placing.rt:95:1
 returns-4 : tie.Need-returns-4
-returns-4 c = placed-known _ _ _ (c .before .before .before .before .before .before .before .before .before .if1 .left) (c .before .before .before .before .before .before .before .if2 .left) _ (c .before .before .before .before .find .ensures) _ (c .before .before .found .given .1) (c .with-position .ensures)
+returns-4 c = placed-known _ _ _ (c .before .before .before .before .before .before .before .before .before .if1 .left)
+    (c .before .before .before .before .before .before .before .if2 .left) _ (c .before .before .before .before .find .ensures)
+    _ (c .before .before .found .given .1) (c .with-position .ensures)
 
 -- src/placing.rt:95:1
 returns-5 : tie.Need-returns-5
 returns-5 c =
-    placed-new _ _ _ (c .before .before .before .before .before .before .before .before .before .before .if1 .left) (c .before .before .before .before .before .before .before .before .if2 .left) _ (c .before .before .before .before .before .find .ensures) (c .before .before .before .enum-told .given .1) (c .before .before .if3 .left)
+    placed-new _ _ _ (c .before .before .before .before .before .before .before .before .before .before .if1 .left)
+    (c .before .before .before .before .before .before .before .before .if2 .left) _
+    (c .before .before .before .before .before .find .ensures) (c .before .before .before .enum-told .given .1)
+    (c .before .before .if3 .left)
     (simp (c .with-position2 .ensures, c .before .with-name .ensures))
 
 pub place-spec : {M : Type 1} → statement M

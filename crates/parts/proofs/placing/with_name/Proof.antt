@@ -1,3 +1,4 @@
+-- `placing::with_name` meets its contract, by that of `write`.
 use borrow.Author.Needs.{needs}
 use Rattle.parts.proofs.placing.with_name.Statement.{statement}
 use Rattle.parts.proofs.placing.with_name.Tie as tie

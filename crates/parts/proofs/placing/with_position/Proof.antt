@@ -1,3 +1,4 @@
+-- `placing::with_position` meets its contract, by that of `set_of`.
 use borrow.Author.Needs.{needs}
 use Rattle.parts.proofs.placing.with_position.Statement.{statement}
 use Rattle.parts.proofs.placing.with_position.Tie as tie

@@ -42,7 +42,8 @@ compared c =
     let bytes = s .args .t3 in
     let all : length lengths ≡ 32 = search needs in
     let every : length bytes ≡ 512 = search needs in
-    let read = spelling-read _ _ _ lengths bytes all every (e .before .if1 .left) (e .before .before .loop-test .taken) (e .end-of .ensures) in
+    let read = spelling-read _ _ _ lengths bytes all every (e .before .if1 .left) (e .before .before .loop-test .taken)
+    (e .end-of .ensures) in
     rw read (c .same-name .ensures)
 
 loop-holds : tie.Need-loop-holds Inv-loop μ-loop

@@ -48,4 +48,5 @@ returns-2 c = sym (c .before .loop .inv ∙ all-passed _ _ _ (c .loop-test .left
 pub names-fit-spec : {M : Type 1} → statement M
 names-fit-spec =
     tie.close
-    (tie.spec Inv-loop μ-loop loop-holds array-read-name-fits cast-name-fits name-fits-requires returns add-i loop-less loop-again returns-2)
+    (tie.spec Inv-loop μ-loop loop-holds array-read-name-fits cast-name-fits name-fits-requires returns add-i loop-less
+    loop-again returns-2)

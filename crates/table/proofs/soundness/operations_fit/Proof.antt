@@ -26,7 +26,8 @@ operation-fits-requires c κs = search needs
 returns : tie.Need-returns Inv-loop μ-loop
 returns c =
     let turn = c .before .before .before in
-    sym (turn .before .loop .inv ∙ one-fails _ _ _ (turn .loop-test .taken) (test-failed (c .before .operation-fits .ensures) (c .if1 .taken)))
+    sym (turn .before .loop .inv ∙ one-fails _ _ _ (turn .loop-test .taken) (test-failed (c .before .operation-fits .ensures)
+    (c .if1 .taken)))
 
 add-p : tie.Need-add-p Inv-loop μ-loop
 add-p c = omega arith

@@ -48,4 +48,5 @@ returns-2 c = sym (c .before .loop .inv ∙ all-passed _ _ _ (c .loop-test .left
 pub rows-fit-spec : {M : Type 1} → statement M
 rows-fit-spec =
     tie.close
-    (tie.spec Inv-loop μ-loop loop-holds mul-row-fits element-copy-out-row-fits row-fits-requires returns add-p loop-less loop-again returns-2)
+    (tie.spec Inv-loop μ-loop loop-holds mul-row-fits element-copy-out-row-fits row-fits-requires returns add-p loop-less
+    loop-again returns-2)
