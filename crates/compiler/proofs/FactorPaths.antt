@@ -12,9 +12,8 @@ use Rattle.text.proofs.Reading.{start-within-used, used-within-text, name-reach
 use Rattle.table.specs.declared.cells.Table.{Table}
 use Rattle.parts.specs.Parts.{placed}
 use Rattle.parts.specs.declared.placing.Placed.{Placed}
-use Rattle.compiler.specs.Reading.{Starry, FactorRead, ExpressionRead, endsExpression, closed, halted, unfit}
+use Rattle.compiler.specs.Reading.{begins, Starry, FactorRead, ExpressionRead, endsExpression, closed, halted, unfit}
 use Rattle.compiler.specs.declared.readers.Reading.{Reading}
-use Rattle.compiler.proofs.Arms.{begins}
 use Rattle.compiler.proofs.Tails.{slice, slice-size}
 use Rattle.compiler.proofs.Endings.{moves}
 use Rattle.compiler.proofs.Factors.{nameAt, factor-other, factor-deep, factor-limit, factor-name}

@@ -26,9 +26,8 @@ use Rattle.parts.specs.Progress.{noted, Fine, partOf, starTimes}
 use Rattle.parts.specs.declared.placing.Placed.{Placed}
 use Rattle.parts.proofs.Laws.{part-stars, names-starred}
 use Rattle.parts.proofs.NameParts.{nameLimit, placed-number, placed-part, placed-fine}
-use Rattle.compiler.specs.Reading.{Tail, Starry, FactorRead, verdict, endsExpression, isClose, halted, unfit}
+use Rattle.compiler.specs.Reading.{begins, Tail, Starry, FactorRead, verdict, endsExpression, isClose, halted, unfit}
 use Rattle.compiler.specs.declared.readers.Reading.{Reading}
-use Rattle.compiler.proofs.Arms.{begins}
 use Rattle.compiler.proofs.Verdicts.{is-opening, is-name, place, stuckAt, verdict-symbol, verdict-stuck}
 
 -- no token is refused by 0

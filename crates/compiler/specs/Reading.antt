@@ -1,7 +1,7 @@
 -- What the readers promise each other, in terms of the machine of crates/grammar: reading a part takes the machine from one state to
 -- another, or to a refusal. Nothing here needs to be believed: the contract of `compile` is in Compiling.antt.
 use mathlib.Core.Path.{_≡_}
-use mathlib.Core.Bool.{Bool, true, false, cond, not}
+use mathlib.Core.Bool.{Bool, true, false, cond, not, _&&_, _||_}
 use mathlib.Core.List.{List, _++_}
 use mathlib.Core.Logic.{_⊎_}
 use mathlib.Core.Option.{Option, none}
@@ -61,18 +61,35 @@ orRead l r = withPart r (either (l .part) (r .part))
 abbrev pub behind : List ℕ → Reading → Read
 behind s r = nextToken (drop (length s - r .left) s)
 
+-- the number of a token's kind, by which tokens are told apart
+abbrev pub kind : Token → ℕ
+kind Semicolon = 0
+kind Plus = 1
+kind Star = 2
+kind Open = 3
+kind Close = 4
+kind Path = 5
+kind End = 6
+kind (Named n) = 7
+kind TextEnd = 8
+kind Bad = 9
+kind Long = 10
+
 abbrev pub isClose : Token → Bool
-isClose Semicolon = false
-isClose Plus = false
-isClose Star = false
-isClose Open = false
-isClose Close = true
-isClose Path = false
-isClose End = false
-isClose (Named n) = false
-isClose TextEnd = false
-isClose Bad = false
-isClose Long = false
+isClose t = eqb (kind t) 4
+
+abbrev pub isPath : Token → Bool
+isPath t = eqb (kind t) 5
+
+abbrev pub isEnd : Token → Bool
+isEnd t = eqb (kind t) 6
+
+abbrev pub isTextEnd : Token → Bool
+isTextEnd t = eqb (kind t) 8
+
+-- a factor begins with it
+abbrev pub begins : Token → Bool
+begins t = eqb (kind t) 3 || eqb (kind t) 7
 
 -- e, and the `)` behind it, or the refusal of what stands there instead
 abbrev pub closeBy : Reading → Read → Reading
@@ -82,45 +99,6 @@ closeBy e u =
 
 unfoldable pub closed : List ℕ → Reading → Reading
 closed s e = cond (eqb (e .number) 0) (closeBy e (behind s e)) e
-
-abbrev pub isPath : Token → Bool
-isPath Semicolon = false
-isPath Plus = false
-isPath Star = false
-isPath Open = false
-isPath Close = false
-isPath Path = true
-isPath End = false
-isPath (Named n) = false
-isPath TextEnd = false
-isPath Bad = false
-isPath Long = false
-
-abbrev pub isEnd : Token → Bool
-isEnd Semicolon = false
-isEnd Plus = false
-isEnd Star = false
-isEnd Open = false
-isEnd Close = false
-isEnd Path = false
-isEnd End = true
-isEnd (Named n) = false
-isEnd TextEnd = false
-isEnd Bad = false
-isEnd Long = false
-
-abbrev pub isTextEnd : Token → Bool
-isTextEnd Semicolon = false
-isTextEnd Plus = false
-isTextEnd Star = false
-isTextEnd Open = false
-isTextEnd Close = false
-isTextEnd Path = false
-isTextEnd End = false
-isTextEnd (Named n) = false
-isTextEnd TextEnd = true
-isTextEnd Bad = false
-isTextEnd Long = false
 
 -- a refused compile
 abbrev pub refusedAt : ℕ → ℕ → Compiled
@@ -141,73 +119,23 @@ unfoldable pub ended : List ℕ → Reading → Compiled
 ended text e =
     cond (eqb (e .number) 0) (endBy text e (length text - e .left) (behind text e)) (refusedAt (e .number) (length text - e .left))
 
--- what a token behind a factor, a sequence or an expression cannot be
+-- which tokens may stand behind a factor, a sequence and an expression: what none of them would go on with
 abbrev pub endsFactor : Token → Bool
-endsFactor Star = false
-endsFactor Semicolon = true
-endsFactor Plus = true
-endsFactor Open = true
-endsFactor Close = true
-endsFactor Path = true
-endsFactor End = true
-endsFactor (Named n) = true
-endsFactor TextEnd = true
-endsFactor Bad = true
-endsFactor Long = true
+endsFactor t = not (eqb (kind t) 2)
 
 abbrev pub endsSequence : Token → Bool
-endsSequence Star = false
-endsSequence Semicolon = false
-endsSequence Plus = true
-endsSequence Open = false
-endsSequence Close = true
-endsSequence Path = true
-endsSequence End = true
-endsSequence (Named n) = false
-endsSequence TextEnd = true
-endsSequence Bad = true
-endsSequence Long = true
+endsSequence t = endsFactor t && not (eqb (kind t) 0) && not (begins t)
 
 abbrev pub endsExpression : Token → Bool
-endsExpression Star = false
-endsExpression Semicolon = false
-endsExpression Plus = false
-endsExpression Open = false
-endsExpression Close = true
-endsExpression Path = true
-endsExpression End = true
-endsExpression (Named n) = false
-endsExpression TextEnd = true
-endsExpression Bad = true
-endsExpression Long = true
+endsExpression t = endsSequence t && not (eqb (kind t) 1)
 
 -- where the next factor of a sequence starts, by the token at byte k: behind a `;`, or at once
 abbrev pub factorBy : Token → ℕ → ℕ → Onward
-factorBy Semicolon k used = At (k + used)
-factorBy Plus k used = Ends
-factorBy Star k used = Ends
-factorBy Open k used = At k
-factorBy Close k used = Ends
-factorBy Path k used = Ends
-factorBy End k used = Ends
-factorBy (Named n) k used = At k
-factorBy TextEnd k used = Ends
-factorBy Bad k used = Ends
-factorBy Long k used = Ends
+factorBy t k used = cond (eqb (kind t) 0) (At (k + used)) (cond (begins t) (At k) Ends)
 
 -- where the next sequence of a sum starts: behind a `+`
 abbrev pub sequenceBy : Token → ℕ → ℕ → Onward
-sequenceBy Semicolon k used = Ends
-sequenceBy Plus k used = At (k + used)
-sequenceBy Star k used = Ends
-sequenceBy Open k used = Ends
-sequenceBy Close k used = Ends
-sequenceBy Path k used = Ends
-sequenceBy End k used = Ends
-sequenceBy (Named n) k used = Ends
-sequenceBy TextEnd k used = Ends
-sequenceBy Bad k used = Ends
-sequenceBy Long k used = Ends
+sequenceBy t k used = cond (eqb (kind t) 1) (At (k + used)) Ends
 
 -- the same where `left` bytes of s are unread
 abbrev pub fromBy : (Token → ℕ → ℕ → Onward) → List ℕ → ℕ → Onward
