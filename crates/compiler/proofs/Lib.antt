@@ -2,6 +2,7 @@
 pub mod Tails
 pub mod Verdicts
 pub mod Endings
+pub mod Insides
 pub mod Stars
 pub mod Arms
 pub mod Starry

@@ -8,7 +8,7 @@ use Prim.Native.Nat.{ℕ, _+_, _-_, _≤_, _<_}
 use native.Mathlib.Omega.{arith}
 use borrow.Author.Tests.{eq-eqb, ne-eqb, lt-leb}
 use lib.Dec.{eqb, leb}
-use lib.ListN.{length, drop, length-drop}
+use lib.ListN.{length}
 use Rattle.meaning.specs.Names.{Name}
 use Rattle.meaning.specs.Words.{Expr, names}
 use Rattle.text.specs.Tokens.{nextToken}
@@ -25,9 +25,10 @@ use Rattle.parts.specs.Progress.{Fine, partOf, starTimes}
 use Rattle.parts.proofs.Laws.{part-stars, names-starred}
 use Rattle.compiler.specs.Reading.{Tail, Goes, Stops, Starry, FactorRead, ExpressionRead, Part-read, verdict, behind, endsFactor, endsExpression, isClose, closed, halted, Either-way, unfit}
 use Rattle.compiler.specs.declared.readers.Reading.{Reading}
-use Rattle.compiler.proofs.Tails.{slice, slice-drops, tail-drop}
+use Rattle.compiler.proofs.Tails.{slice}
 use Rattle.compiler.proofs.Verdicts.{is-closing, place}
-use Rattle.compiler.proofs.Endings.{behind-part, behind-symbol, behind-stuck, moves}
+use Rattle.compiler.proofs.Insides.{inside, size-inside, tail-inside, inner, within-all, behind-inside}
+use Rattle.compiler.proofs.Endings.{behind-symbol, behind-stuck, moves}
 use Rattle.compiler.proofs.Factors.{opened, limited-goes, unfit-some, unclosed-stuck}
 
 -- only `)` closes
@@ -56,38 +57,16 @@ closed-left s e = go (eqb (e .number) 0) (isClose (behind s e .token))
     go false c = omega arith
 
 module _ (s : List ℕ) (d : ℕ) (t : Table) (is-open : nextToken s .token ≡ Open) (shallow : d < 16) (e : Reading) (told : ExpressionRead endsExpression (slice s (nextToken s .used)) (d + 1) t e) where
-  inside : List ℕ
-  inside = drop (nextToken s .used) s
-
-  size-inside : length inside ≡ length s - nextToken s .used
-  unfolding inside
-  size-inside = length-drop (nextToken s .used) s
-
-  inner : ExpressionRead endsExpression inside (d + 1) t e
-  unfolding inside
-  inner = subst (λ (v : List ℕ). ExpressionRead endsExpression v (d + 1) t e) (slice-drops s (nextToken s .used)) told
-
-  within-all : e .left ≤ length s
-  within-all = omega (arith, inner .within, size-inside)
-
   less : nextToken s .start < nextToken s .used
   less = moves s Open is-open refl
 
   -- the machine steps inside
   enters : (text : List ℕ) (ks : List Left) → Tail text s → length ks ≡ d → (l : Left) (ns : List Name)
-      → verdict text (length s) (wanting l ks) ns ≡ verdict text (length inside) (wanting nothingLeft (l ∷ ks)) ns
+      → verdict text (length s) (wanting l ks) ns ≡ verdict text (length (inside s)) (wanting nothingLeft (l ∷ ks)) ns
   enters text ks h k l ns =
       let low : _≡_ {A = ℕ} (cond (leb 16 (length ks)) 5 0) 0 = rw (lt-leb 16 (length ks) (omega (arith, k))) refl in
       opened s d t text ks h is-open l ns ∙ limited-goes _ (place text s) _ low
-      ∙ ap (λ (j : ℕ). verdict text j (wanting nothingLeft (l ∷ ks)) ns) (sym size-inside)
-
-  tail-inside : (text : List ℕ) → Tail text s → Tail text inside
-  unfolding inside
-  tail-inside text h = tail-drop text s h (nextToken s .used) (used-within-text s)
-
-  behind-inside : behind inside e ≡ behind s e
-  unfolding inside
-  behind-inside = behind-part s (nextToken s .used) e (used-within-text s) (omega (arith, inner .within, size-inside))
+      ∙ ap (λ (j : ℕ). verdict text j (wanting nothingLeft (l ∷ ks)) ns) (sym (size-inside s))
 
   closed-stays : (e .number ≡ 0 → ⊥) → closed s e ≡ e
   unfolding closed
@@ -107,30 +86,30 @@ module _ (s : List ℕ) (d : ℕ) (t : Table) (is-open : nextToken s .token ≡ 
   leaves : (text : List ℕ) → Tail text s → behind s e .token ≡ Close → (l k : Left) (f : Expr) (ks : List Left) (ns : List Name)
       → verdict text (e .left) (having l f (k ∷ ks)) ns ≡ verdict text (e .left - behind s e .used) (having k (sumTo l f) ks) ns
   unfolding stepTo haveStep depthOf limitAt namesOn stepped limited
-  leaves text h c l k f ks ns = behind-symbol s e within-all text h (having l f (k ∷ ks)) ns Close closing c (is-closing _)
+  leaves text h c l k f ks ns = behind-symbol s e (within-all s (d + 1) t e told) text h (having l f (k ∷ ks)) ns Close closing c (is-closing _)
 
   -- and anything else is refused
   stuck : (text : List ℕ) → Tail text s → endsExpression (behind s e .token) ≡ true → isClose (behind s e .token) ≡ false
       → (l k : Left) (f : Expr) (ks : List Left) (ns : List Name)
       → verdict text (e .left) (having l f (k ∷ ks)) ns ≡ refused (unfit (behind s e .token)) (length text - (e .left - behind s e .start))
   stuck text h ended c l k f ks ns =
-      behind-stuck s e within-all text h (having l f (k ∷ ks)) ns (unclosed-stuck l k f ks (behind s e .token) _ ended c)
+      behind-stuck s e (within-all s (d + 1) t e told) text h (having l f (k ∷ ks)) ns (unclosed-stuck l k f ks (behind s e .token) _ ended c)
 
   -- what the reader of factors answers: the expression, closed, with its stars
   module _ (q r : Reading) (is-closed-of : q ≡ closed s e) (starry : Starry s q r) where
     -- a refusal inside is a refusal of the whole
-    refused-inside : (ns : List Name) → (e .number ≡ 0 → ⊥) → Stops inside e (d + 1) (λ ks. wanting nothingLeft ks) ns
+    refused-inside : (ns : List Name) → (e .number ≡ 0 → ⊥) → Stops (inside s) e (d + 1) (λ ks. wanting nothingLeft ks) ns
         → (r .number ≡ 0 → ⊥) × ((l : Left) → Stops s r d (λ ks. wanting l ks) ns)
     refused-inside ns some stops =
         let q-is : q ≡ e = is-closed-of ∙ closed-stays some in
         let r-is : r ≡ e = starry .refused-stays (λ z. some (ap (λ (x : Reading). x .number) (sym q-is) ∙ z)) ∙ q-is in
         subst (λ (x : Reading). (x .number ≡ 0 → ⊥) × ((l : Left) → Stops s x d (λ ks. wanting l ks) ns)) (sym r-is)
-        (some, λ l text ks h k. enters text ks h k l ns ∙ stops text (l ∷ ks) (tail-inside text h) (omega (arith, k)))
+        (some, λ l text ks h k. enters text ks h k l ns ∙ stops text (l ∷ ks) (tail-inside text s h) (omega (arith, k)))
 
     -- so is anything but a `)` behind the expression
     refused-unclosed : (ns ns′ : List Name) (l′ : Left) (f : Expr) → e .number ≡ 0 → endsExpression (behind s e .token) ≡ true
         → isClose (behind s e .token) ≡ false
-        → Goes inside (e .left) (d + 1) (λ ks. wanting nothingLeft ks) ns (λ ks. having l′ f ks) ns′
+        → Goes (inside s) (e .left) (d + 1) (λ ks. wanting nothingLeft ks) ns (λ ks. having l′ f ks) ns′
         → (r .number ≡ 0 → ⊥) × ((l : Left) → Stops s r d (λ ks. wanting l ks) ns)
     refused-unclosed ns ns′ l′ f z ended c goes =
         let T = behind s e .token in
@@ -140,13 +119,13 @@ module _ (s : List ℕ) (d : ℕ) (t : Table) (is-open : nextToken s .token ≡ 
         subst (λ (x : Reading). (x .number ≡ 0 → ⊥) × ((l : Left) → Stops s x d (λ ks. wanting l ks) ns)) (sym r-is) (
           unfit-some T,
           λ l text ks h k.
-              enters text ks h k l ns ∙ goes text (l ∷ ks) (tail-inside text h) (omega (arith, k)) ∙ stuck text h ended c l′ l f ks ns′,
+              enters text ks h k l ns ∙ goes text (l ∷ ks) (tail-inside text s h) (omega (arith, k)) ∙ stuck text h ended c l′ l f ks ns′,
         )
 
     -- behind the `)` the expression is a factor, starred as often as stars follow
     read-closed : (ns : List Name) (rs : List ℕ) (l′ : Left) (f : Expr) → e .number ≡ 0 → isClose (behind s e .token) ≡ true
-        → Part-read inside e endsExpression ns rs (sumTo l′ f)
-        → Goes inside (e .left) (d + 1) (λ ks. wanting nothingLeft ks) ns (λ ks. having l′ f ks) (ns ++ names (sumTo l′ f))
+        → Part-read (inside s) e endsExpression ns rs (sumTo l′ f)
+        → Goes (inside s) (e .left) (d + 1) (λ ks. wanting nothingLeft ks) ns (λ ks. having l′ f ks) (ns ++ names (sumTo l′ f))
         → (r .number ≡ 0) × ((g : Expr) × Part-read s r endsFactor ns rs g
         × ((l : Left) → Goes s (r .left) d (λ ks. wanting l ks) ns (λ ks. having l g ks) (ns ++ names g)))
     read-closed ns rs l′ f z c read goes =
@@ -166,7 +145,7 @@ module _ (s : List ℕ) (d : ℕ) (t : Table) (is-open : nextToken s .token ≡ 
               ended = starry .ends q-none;
             },
             λ l text ks h k.
-                enters text ks h k l ns ∙ goes text (l ∷ ks) (tail-inside text h) (omega (arith, k))
+                enters text ks h k l ns ∙ goes text (l ∷ ks) (tail-inside text s h) (omega (arith, k))
                 ∙ leaves text h (is-closed (behind s e .token) c) l′ l f ks (ns ++ names whole)
                 ∙ ap (λ (j : ℕ). verdict text j (having l whole ks) (ns ++ names whole)) (sym q-left)
                 ∙ starry .goes q-none l whole d (ns ++ names whole) text ks h k
@@ -180,14 +159,14 @@ module _ (s : List ℕ) (d : ℕ) (t : Table) (is-open : nextToken s .token ≡ 
     pub factor-open : FactorRead s d t r
     factor-open =
         record {
-          within = omega (arith, within-all, left-inside);
-          fewer = λ _. omega (arith, left-inside, inner .within, size-inside, less, used-within-text s);
-          outcome = λ ns rs same fine. by-outcome ns rs (inner .outcome ns rs same fine);
+          within = omega (arith, within-all s (d + 1) t e told, left-inside);
+          fewer = λ _. omega (arith, left-inside, inner s (d + 1) t e told .within, size-inside s, less, used-within-text s);
+          outcome = λ ns rs same fine. by-outcome ns rs (inner s (d + 1) t e told .outcome ns rs same fine);
         }
       where
         by-close : (ns : List Name) (rs : List ℕ) (l′ : Left) (f : Expr) → e .number ≡ 0
-            → Part-read inside e endsExpression ns rs (sumTo l′ f)
-            → Goes inside (e .left) (d + 1) (λ ks. wanting nothingLeft ks) ns (λ ks. having l′ f ks) (ns ++ names (sumTo l′ f))
+            → Part-read (inside s) e endsExpression ns rs (sumTo l′ f)
+            → Goes (inside s) (e .left) (d + 1) (λ ks. wanting nothingLeft ks) ns (λ ks. having l′ f ks) (ns ++ names (sumTo l′ f))
             → (b : Bool) → isClose (behind s e .token) ≡ b
             → Either-way r ((g : Expr) × Part-read s r endsFactor ns rs g
             × ((l : Left) → Goes s (r .left) d (λ ks. wanting l ks) ns (λ ks. having l g ks) (ns ++ names g)))
@@ -196,12 +175,12 @@ module _ (s : List ℕ) (d : ℕ) (t : Table) (is-open : nextToken s .token ≡ 
         by-close ns rs l′ f z read goes false c =
             inr
             (refused-unclosed ns (ns ++ names (sumTo l′ f)) l′ f z
-            (ap (λ (x : Read). endsExpression (x .token)) (sym behind-inside) ∙ read .ended) c goes)
+            (ap (λ (x : Read). endsExpression (x .token)) (sym (behind-inside s (d + 1) t e told)) ∙ read .ended) c goes)
 
         by-outcome : (ns : List Name) (rs : List ℕ)
-            → Either-way e ((l : Left) × (f : Expr) × Part-read inside e endsExpression ns rs (sumTo l f)
-            × Goes inside (e .left) (d + 1) (λ ks. wanting nothingLeft ks) ns (λ ks. having l f ks) (ns ++ names (sumTo l f)))
-            (Stops inside e (d + 1) (λ ks. wanting nothingLeft ks) ns)
+            → Either-way e ((l : Left) × (f : Expr) × Part-read (inside s) e endsExpression ns rs (sumTo l f)
+            × Goes (inside s) (e .left) (d + 1) (λ ks. wanting nothingLeft ks) ns (λ ks. having l f ks) (ns ++ names (sumTo l f)))
+            (Stops (inside s) e (d + 1) (λ ks. wanting nothingLeft ks) ns)
             → Either-way r ((g : Expr) × Part-read s r endsFactor ns rs g
             × ((l : Left) → Goes s (r .left) d (λ ks. wanting l ks) ns (λ ks. having l g ks) (ns ++ names g)))
             ((l : Left) → Stops s r d (λ ks. wanting l ks) ns)

@@ -34,8 +34,9 @@ use Rattle.compiler.specs.Computed.{answered, compiled}
 use Rattle.compiler.specs.declared.readers.Reading.{Reading}
 use Rattle.compiler.specs.declared.replies.Compiled.{Compiled}
 use Rattle.compiler.specs.declared.replies.Reply.the-variants.{Accepted as Accepts}
-use Rattle.compiler.proofs.Tails.{slice, slice-drops, tail-whole, tail-drop}
-use Rattle.compiler.proofs.Endings.{behind-part, behind-fits, behind-starts, behind-symbol, behind-stuck}
+use Rattle.compiler.proofs.Tails.{slice, tail-whole, tail-drop}
+use Rattle.compiler.proofs.Insides.{inside, size-inside, tail-inside, inner, within-all, behind-inside}
+use Rattle.compiler.proofs.Endings.{behind-fits, behind-starts, behind-symbol, behind-stuck}
 use Rattle.compiler.proofs.Verdicts.{is-path, is-end, place, stuckAt, verdict-symbol, verdict-stuck, verdict-ends}
 
 -- only `path` starts a text
@@ -146,44 +147,22 @@ module _ (text : List ℕ) (short : length text ≤ 4096) where
   -- the text starts with `path`, and e was read behind it
   module _ (is-path-token : nextToken text .token ≡ Path) (t : Table) (e : Reading) (is-zeros : t ≡ zeros)
       (told : ExpressionRead endsExpression (slice text (nextToken text .used)) 0 t e) where
-    inside : List ℕ
-    inside = drop (nextToken text .used) text
-
-    size-inside : length inside ≡ length text - nextToken text .used
-    unfolding inside
-    size-inside = length-drop (nextToken text .used) text
-
-    inner : ExpressionRead endsExpression inside 0 t e
-    unfolding inside
-    inner = subst (λ (v : List ℕ). ExpressionRead endsExpression v 0 t e) (slice-drops text (nextToken text .used)) told
-
-    within-all : e .left ≤ length text
-    within-all = omega (arith, inner .within, size-inside)
-
-    tail-inside : Tail text inside
-    unfolding inside
-    tail-inside = tail-drop text text (tail-whole text) (nextToken text .used) (used-within-text text)
-
-    behind-inside : behind inside e ≡ behind text e
-    unfolding inside
-    behind-inside = behind-part text (nextToken text .used) e (used-within-text text) (omega (arith, inner .within, size-inside))
-
-    enters : verdict text (length text) outside [] ≡ verdict text (length inside) (wanting nothingLeft []) []
+    enters : verdict text (length text) outside [] ≡ verdict text (length (inside text)) (wanting nothingLeft []) []
     unfolding stepTo startStep depthOf limitAt namesOn stepped limited
     enters =
         verdict-symbol text text (tail-whole text) Path path is-path-token (is-path _) outside []
-        ∙ ap (λ (k : ℕ). verdict text k (wanting nothingLeft []) []) (sym size-inside)
+        ∙ ap (λ (k : ℕ). verdict text k (wanting nothingLeft []) []) (sym (size-inside text))
 
     -- where the token behind e stands
     place-behind : length text - (e .left - behind text e .start) ≡ length text - e .left + behind text e .start
-    place-behind = omega (arith, within-all, behind-starts text e within-all)
+    place-behind = omega (arith, (within-all text 0 t e told), behind-starts text e (within-all text 0 t e told))
 
     -- anything but `end` is refused
     unended : (l : Left) (f : Expr) (ns : List Name) → endsExpression (behind text e .token) ≡ true → isEnd (behind text e .token) ≡ false
         → verdict text (e .left) (having l f []) ns ≡ refused (unfit (behind text e .token)) (length text - e .left + behind text e .start)
     unended l f ns stop other =
         let T = behind text e .token in
-        behind-stuck text e within-all text (tail-whole text) (having l f []) ns (unended-stuck l f T _ stop other)
+        behind-stuck text e (within-all text 0 t e told) text (tail-whole text) (having l f []) ns (unended-stuck l f T _ stop other)
         ∙ ap (refused (unfit T)) place-behind
 
     -- what is left behind `end`
@@ -192,24 +171,24 @@ module _ (text : List ℕ) (short : length text ≤ 4096) where
 
     size-last : length last ≡ e .left - behind text e .used
     unfolding last
-    size-last = omega (arith, length-drop (length text - e .left + behind text e .used) text, within-all)
+    size-last = omega (arith, length-drop (length text - e .left + behind text e .used) text, (within-all text 0 t e told))
 
     tail-last : Tail text last
     unfolding last
     tail-last =
         tail-drop text text (tail-whole text) (length text - e .left + behind text e .used)
-        (omega (arith, within-all, behind-fits text e within-all))
+        (omega (arith, (within-all text 0 t e told), behind-fits text e (within-all text 0 t e told)))
 
     place-last : place text last ≡ length text - e .left + behind text e .used + nextToken last .start
     place-last =
-        omega (arith, size-last, within-all, behind-fits text e within-all, start-within-used last, used-within-text last)
+        omega (arith, size-last, (within-all text 0 t e told), behind-fits text e (within-all text 0 t e told), start-within-used last, used-within-text last)
 
     -- `end` takes the machine to its last state
     ends : (l : Left) (f : Expr) (ns : List Name) → isEnd (behind text e .token) ≡ true
         → verdict text (e .left) (having l f []) ns ≡ verdict text (length last) (finished (sumTo l f)) ns
     unfolding stepTo haveStep depthOf limitAt namesOn stepped limited
     ends l f ns is-end-token =
-        behind-symbol text e within-all text (tail-whole text) (having l f []) ns End end
+        behind-symbol text e (within-all text 0 t e told) text (tail-whole text) (having l f []) ns End end
         (is-the-end (behind text e .token) is-end-token) (is-end _)
         ∙ ap (λ (k : ℕ). verdict text k (finished (sumTo l f)) ns) (sym size-last)
 
@@ -232,7 +211,7 @@ module _ (text : List ℕ) (short : length text ≤ 4096) where
             ∙ ap answered (sym (verdict-stuck text last tail-last (finished w) ns (finished-stuck w (nextToken last .token) _ is)))
 
     -- the same for the token behind e
-    ends-so : (l : Left) (f : Expr) → e .number ≡ 0 → Part-read inside e endsExpression [] (replicate 64 0) (sumTo l f)
+    ends-so : (l : Left) (f : Expr) → e .number ≡ 0 → Part-read (inside text) e endsExpression [] (replicate 64 0) (sumTo l f)
         → ended text e ≡ answered (verdict text (e .left) (having l f []) (names (sumTo l f)))
     unfolding ended last
     ends-so l f z read = rw (eq-eqb _ _ z) (by (isEnd (behind text e .token)) refl)
@@ -243,7 +222,7 @@ module _ (text : List ℕ) (short : length text ≤ 4096) where
             rw is (concludes (sumTo l f) (names (sumTo l f)) (read .part) (read .fine))
             ∙ ap answered (sym (ends l f (names (sumTo l f)) is))
         by false is =
-            let stop = ap (λ (v : Read). endsExpression (v .token)) (sym behind-inside) ∙ read .ended in
+            let stop = ap (λ (v : Read). endsExpression (v .token)) (sym (behind-inside text 0 t e told)) ∙ read .ended in
             rw is refl ∙ ap answered (sym (unended l f (names (sumTo l f)) stop is))
 
     refused-there : (e .number ≡ 0 → ⊥) → ended text e ≡ refusedAt (e .number) (length text - e .left)
@@ -252,15 +231,15 @@ module _ (text : List ℕ) (short : length text ≤ 4096) where
 
     pub compile-path : (r : Compiled) → r ≡ ended text e → r ≡ compiled text
     compile-path r is =
-        answers r (is ∙ by (inner .outcome [] (replicate 64 0) (is-zeros ∙ nothing-noted) nothing-fine) ∙ ap answered (sym enters))
+        answers r (is ∙ by (inner text 0 t e told .outcome [] (replicate 64 0) (is-zeros ∙ nothing-noted) nothing-fine) ∙ ap answered (sym enters))
       where
         by : Either-way e
-            ((l : Left) × (f : Expr) × Part-read inside e endsExpression [] (replicate 64 0) (sumTo l f)
-            × Goes inside (e .left) 0 (λ ks. wanting nothingLeft ks) [] (λ ks. having l f ks) (names (sumTo l f)))
-            (Stops inside e 0 (λ ks. wanting nothingLeft ks) [])
-            → ended text e ≡ answered (verdict text (length inside) (wanting nothingLeft []) [])
-        by (inl (z, (l, f, read, goes))) = ends-so l f z read ∙ ap answered (sym (goes text [] tail-inside refl))
-        by (inr (some-number, stops)) = refused-there some-number ∙ ap answered (sym (stops text [] tail-inside refl))
+            ((l : Left) × (f : Expr) × Part-read (inside text) e endsExpression [] (replicate 64 0) (sumTo l f)
+            × Goes (inside text) (e .left) 0 (λ ks. wanting nothingLeft ks) [] (λ ks. having l f ks) (names (sumTo l f)))
+            (Stops (inside text) e 0 (λ ks. wanting nothingLeft ks) [])
+            → ended text e ≡ answered (verdict text (length (inside text)) (wanting nothingLeft []) [])
+        by (inl (z, (l, f, read, goes))) = ends-so l f z read ∙ ap answered (sym (goes text [] (tail-inside text text (tail-whole text)) refl))
+        by (inr (some-number, stops)) = refused-there some-number ∙ ap answered (sym (stops text [] (tail-inside text text (tail-whole text)) refl))
 
   -- as the program has it: u is the first token, which it reads
   pub starts-with-path : (u : Read) → u ≡ nextToken text → u .token ≡ Path → (t : Table) (e : Reading) → t ≡ zeros
