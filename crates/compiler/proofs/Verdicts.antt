@@ -17,7 +17,7 @@ use Rattle.grammar.specs.Symbols.Lexeme.{symbol}
 use Rattle.grammar.specs.Machine.{State, Verdict, stepTo, depthOf, limitAt, namesOn, atEnd, stepped, judgeItem, judgeFrom}
 use Rattle.grammar.specs.Machine.State.{outside, wanting, having, finished}
 use Rattle.grammar.specs.Machine.Verdict.{refused}
-use Rattle.grammar.proofs.Items.{items-step}
+use Rattle.grammar.proofs.Items.{reading-goes-on}
 use Rattle.compiler.specs.Reading.{rest, Tail, verdict, unfit}
 use Rattle.compiler.proofs.Tails.{tail-behind}
 
@@ -131,7 +131,7 @@ module _ (text s : List ℕ) (h : Tail text s) where
       let behind = ap₂ itemsFrom far (tail-behind text s h used (used-within-text s)) in
       ap (λ (w : List ℕ). judgeFrom (length text) (itemsFrom (length text - length s) w) st ns) (sym (h .same))
       ∙ ap (λ (is : List Item). judgeFrom (length text) is st ns)
-      (items-step (length text - length s) s
+      (reading-goes-on (length text - length s) s
       ∙ ap₂ (λ (k : ℕ) (is : List Item). itemsBy (nextToken s .token) k (drop (nextToken s .start) s) is) place-is behind)
 
   -- a symbol is stepped over, or refused by 4 or by a limit

@@ -10,6 +10,7 @@ use Rattle.text.specs.Tokens.{nextToken}
 use Rattle.text.specs.declared.tokens.Token.{Token}
 use Rattle.text.specs.declared.tokens.Token.the-variants.{Semicolon, Plus, Star, Open, Close, Path, End, Name, TextEnd, Bad, Long}
 use Rattle.text.proofs.Reading.{used-within-text, token-moves-on}
+use Rattle.grammar.specs.Promises.{Reading-goes-on}
 use Rattle.grammar.specs.Symbols.{Item, itemsBy, itemsWithin, itemsFrom}
 
 -- a token is the end of the text, or one item in front of those behind it
@@ -48,10 +49,8 @@ any-bound (suc f) (suc g) k s hf hg =
     let fewer = fewer-left s goes-on in
     any-bound f g (k + nextToken s .used) (drop (nextToken s .used) s) (omega arith) (omega arith)
 
-pub items-step : (k : ℕ) (s : List ℕ) → itemsFrom k s
-    ≡ itemsBy (nextToken s .token) (k + nextToken s .start) (drop (nextToken s .start) s)
-    (itemsFrom (k + nextToken s .used) (drop (nextToken s .used) s))
+pub reading-goes-on : Reading-goes-on
 unfolding itemsFrom itemsWithin
-items-step k s =
+reading-goes-on k s =
     same-behind (nextToken s .token) _ _ _ _ λ goes-on.
     any-bound (length s) (suc (length (drop (nextToken s .used) s))) _ _ (fewer-left s goes-on) (omega arith)

@@ -4,15 +4,24 @@ use mathlib.Core.Path.{_≡_}
 use mathlib.Core.Bool.{true}
 use mathlib.Core.List.{List, List·Memᴰ}
 use mathlib.Core.Logic.{_↔_, _⊎_}
-use Prim.Native.Nat.{ℕ}
+use Prim.Native.Nat.{ℕ, _+_}
+use lib.ListN.{drop}
 use Rattle.meaning.specs.Names.{Name}
 use Rattle.meaning.specs.Words.{Expr, names}
-use Rattle.text.specs.Tokens.{wellFormed}
-use Rattle.grammar.specs.Symbols.{Symbol}
+use Rattle.text.specs.Tokens.{nextToken, wellFormed}
+use Rattle.grammar.specs.Symbols.{Symbol, itemsBy, itemsFrom}
 use Rattle.grammar.specs.Grammar.{Whole}
 use Rattle.grammar.specs.Refusals.{Accepted, Refused, namesIn}
 use Rattle.grammar.specs.Machine.{judge}
 use Rattle.grammar.specs.Machine.Verdict.{accepted, refused}
+
+-- "reading goes on with what is left of the text after a token": the bound of `itemsWithin` is never reached
+abbrev pub Reading-goes-on : Type 0
+Reading-goes-on =
+    (k : ℕ) (s : List ℕ)
+    → itemsFrom k s
+    ≡ itemsBy (nextToken s .token) (k + nextToken s .start) (drop (nextToken s .start) s)
+    (itemsFrom (k + nextToken s .used) (drop (nextToken s .used) s))
 
 -- the grammar gives a list of symbols one expression at most: sequences and sums are grouped from the left. (Any other grouping has
 -- the same words: meaning's `Rewriting-keeps-words` regroups freely.)
