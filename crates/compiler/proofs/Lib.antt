@@ -12,6 +12,7 @@ pub mod Parentheses
 pub mod FactorPaths
 pub mod Joining
 pub mod Onwards
+pub mod Growing
 pub mod Sequences
 pub mod Expressions
 pub mod Wholes

@@ -23,7 +23,7 @@ use Rattle.grammar.specs.Machine.Verdict.{refused}
 use Rattle.table.specs.declared.cells.Table.{Table}
 use Rattle.parts.specs.Progress.{Fine, partOf, starTimes}
 use Rattle.parts.proofs.Laws.{part-stars, names-starred}
-use Rattle.compiler.specs.Reading.{Tail, Goes, Stops, Starry, FactorRead, ExpressionRead, Part-read, verdict, behind, endsFactor, endsExpression, isClose, closed, halted, Either-way, unfit}
+use Rattle.compiler.specs.Reading.{Sum, Tail, Goes, Stops, Starry, FactorRead, ExpressionRead, Part-read, verdict, behind, endsFactor, endsExpression, isClose, closed, halted, Either-way, unfit}
 use Rattle.compiler.specs.declared.readers.Reading.{Reading}
 use Rattle.compiler.proofs.Tails.{slice}
 use Rattle.compiler.proofs.Verdicts.{is-closing, place}
@@ -86,14 +86,16 @@ module _ (s : List ℕ) (d : ℕ) (t : Table) (is-open : nextToken s .token ≡ 
   leaves : (text : List ℕ) → Tail text s → behind s e .token ≡ Close → (l k : Left) (f : Expr) (ks : List Left) (ns : List Name)
       → verdict text (e .left) (having l f (k ∷ ks)) ns ≡ verdict text (e .left - behind s e .used) (having k (sumTo l f) ks) ns
   unfolding stepTo haveStep depthOf limitAt namesOn stepped limited
-  leaves text h c l k f ks ns = behind-symbol s e (within-all s (d + 1) t e told) text h (having l f (k ∷ ks)) ns Close closing c (is-closing _)
+  leaves text h c l k f ks ns = behind-symbol s e (within-all s (d + 1) t e told) text h (having l f (k ∷ ks)) ns Close closing
+      c (is-closing _)
 
   -- and anything else is refused
   stuck : (text : List ℕ) → Tail text s → endsExpression (behind s e .token) ≡ true → isClose (behind s e .token) ≡ false
       → (l k : Left) (f : Expr) (ks : List Left) (ns : List Name)
       → verdict text (e .left) (having l f (k ∷ ks)) ns ≡ refused (unfit (behind s e .token)) (length text - (e .left - behind s e .start))
   stuck text h ended c l k f ks ns =
-      behind-stuck s e (within-all s (d + 1) t e told) text h (having l f (k ∷ ks)) ns (unclosed-stuck l k f ks (behind s e .token) _ ended c)
+      behind-stuck s e (within-all s (d + 1) t e told) text h (having l f (k ∷ ks)) ns (unclosed-stuck l k f ks (behind s
+      e .token) _ ended c)
 
   -- what the reader of factors answers: the expression, closed, with its stars
   module _ (q r : Reading) (is-closed-of : q ≡ closed s e) (starry : Starry s q r) where
@@ -178,11 +180,12 @@ module _ (s : List ℕ) (d : ℕ) (t : Table) (is-open : nextToken s .token ≡ 
             (ap (λ (x : Read). endsExpression (x .token)) (sym (behind-inside s (d + 1) t e told)) ∙ read .ended) c goes)
 
         by-outcome : (ns : List Name) (rs : List ℕ)
-            → Either-way e ((l : Left) × (f : Expr) × Part-read (inside s) e endsExpression ns rs (sumTo l f)
-            × Goes (inside s) (e .left) (d + 1) (λ ks. wanting nothingLeft ks) ns (λ ks. having l f ks) (ns ++ names (sumTo l f)))
-            (Stops (inside s) e (d + 1) (λ ks. wanting nothingLeft ks) ns)
+            → Either-way e ((b : Sum) × Part-read (inside s) e endsExpression ns rs (sumTo (b .0) (b .1))
+            × (Unit {0} → Goes (inside s) (e .left) (d + 1) (λ ks. wanting nothingLeft ks) ns (λ ks. having (b .0) (b .1) ks)
+            (ns ++ names (sumTo (b .0) (b .1)))))
+            (Unit {0} → Stops (inside s) e (d + 1) (λ ks. wanting nothingLeft ks) ns)
             → Either-way r ((g : Expr) × Part-read s r endsFactor ns rs g
             × ((l : Left) → Goes s (r .left) d (λ ks. wanting l ks) ns (λ ks. having l g ks) (ns ++ names g)))
             ((l : Left) → Stops s r d (λ ks. wanting l ks) ns)
-        by-outcome ns rs (inl (z, (l′, f, read, goes))) = by-close ns rs l′ f z read goes (isClose (behind s e .token)) refl
-        by-outcome ns rs (inr (some, stops)) = inr (refused-inside ns some stops)
+        by-outcome ns rs (inl (z, ((l′, f), read, goes))) = by-close ns rs l′ f z read (goes tt) (isClose (behind s e .token)) refl
+        by-outcome ns rs (inr (some, stops)) = inr (refused-inside ns some (stops tt))

@@ -29,7 +29,7 @@ use Rattle.parts.specs.Parts.{completed}
 use Rattle.parts.specs.Progress.{noted, Fine, partOf}
 use Rattle.parts.proofs.NameParts.{nothing-fine}
 use Rattle.parts.proofs.Completed.{completed-part}
-use Rattle.compiler.specs.Reading.{Tail, Goes, ExpressionRead, Part-read, Either-way, Stops, verdict, behind, endsExpression, isPath, isEnd, isTextEnd, refusedAt, concluded, endBy, ended, unfit}
+use Rattle.compiler.specs.Reading.{Sum, Tail, Goes, ExpressionRead, Part-read, Either-way, Stops, verdict, behind, endsExpression, isPath, isEnd, isTextEnd, refusedAt, concluded, endBy, ended, unfit}
 use Rattle.compiler.specs.Computed.{answered, compiled}
 use Rattle.compiler.specs.declared.readers.Reading.{Reading}
 use Rattle.compiler.specs.declared.replies.Compiled.{Compiled}
@@ -181,7 +181,14 @@ module _ (text : List ℕ) (short : length text ≤ 4096) where
 
     place-last : place text last ≡ length text - e .left + behind text e .used + nextToken last .start
     place-last =
-        omega (arith, size-last, (within-all text 0 t e told), behind-fits text e (within-all text 0 t e told), start-within-used last, used-within-text last)
+        omega (
+          arith,
+          size-last,
+          (within-all text 0 t e told),
+          behind-fits text e (within-all text 0 t e told),
+          start-within-used last,
+          used-within-text last,
+        )
 
     -- `end` takes the machine to its last state
     ends : (l : Left) (f : Expr) (ns : List Name) → isEnd (behind text e .token) ≡ true
@@ -231,15 +238,19 @@ module _ (text : List ℕ) (short : length text ≤ 4096) where
 
     pub compile-path : (r : Compiled) → r ≡ ended text e → r ≡ compiled text
     compile-path r is =
-        answers r (is ∙ by (inner text 0 t e told .outcome [] (replicate 64 0) (is-zeros ∙ nothing-noted) nothing-fine) ∙ ap answered (sym enters))
+        answers r (is ∙ by (inner text 0 t e told .outcome [] (replicate 64 0) (is-zeros ∙ nothing-noted) nothing-fine) ∙ ap
+        answered (sym enters))
       where
         by : Either-way e
-            ((l : Left) × (f : Expr) × Part-read (inside text) e endsExpression [] (replicate 64 0) (sumTo l f)
-            × Goes (inside text) (e .left) 0 (λ ks. wanting nothingLeft ks) [] (λ ks. having l f ks) (names (sumTo l f)))
-            (Stops (inside text) e 0 (λ ks. wanting nothingLeft ks) [])
+            ((b : Sum) × Part-read (inside text) e endsExpression [] (replicate 64 0) (sumTo (b .0) (b .1))
+            × (Unit {0} → Goes (inside text) (e .left) 0 (λ ks. wanting nothingLeft ks) [] (λ ks. having (b .0) (b .1) ks)
+            (names (sumTo (b .0) (b .1)))))
+            (Unit {0} → Stops (inside text) e 0 (λ ks. wanting nothingLeft ks) [])
             → ended text e ≡ answered (verdict text (length (inside text)) (wanting nothingLeft []) [])
-        by (inl (z, (l, f, read, goes))) = ends-so l f z read ∙ ap answered (sym (goes text [] (tail-inside text text (tail-whole text)) refl))
-        by (inr (some-number, stops)) = refused-there some-number ∙ ap answered (sym (stops text [] (tail-inside text text (tail-whole text)) refl))
+        by (inl (z, ((l, f), read, goes))) = ends-so l f z read ∙ ap answered (sym (goes tt text [] (tail-inside text text
+            (tail-whole text)) refl))
+        by (inr (some-number, stops)) = refused-there some-number ∙ ap answered (sym (stops tt text [] (tail-inside text text
+            (tail-whole text)) refl))
 
   -- as the program has it: u is the first token, which it reads
   pub starts-with-path : (u : Read) → u ≡ nextToken text → u .token ≡ Path → (t : Table) (e : Reading) → t ≡ zeros

@@ -205,30 +205,34 @@ Either-way r goes stops = ((r .number ≡ 0) × goes) ⊎ ((r .number ≡ 0 → 
 abbrev pub onSum : Option Expr → Option Expr → Left
 onSum s r = record { sum = s; run = r }
 
-pub record FactorRead (s : List ℕ) (d : ℕ) (t : Table) (r : Reading) : Type 0 where
+-- what a reader of some kind of part promises. `from` is the state in which such a part has to come and `to` the one in which it was
+-- read, whatever stands around it (A); what was read (B) has an expression, and `ends` tells the tokens that may stand behind it
+pub record Reads-as {A B : Type 0} (from : A → List Left → State) (to : A → B → List Left → State) (whole : B → Expr)
+    (ends : Token → Bool) (s : List ℕ) (d : ℕ) (t : Table) (r : Reading) : Type 0 where
   pub within : r .left ≤ length s
   pub fewer : r .number ≡ 0 → r .left < length s
   pub outcome : (ns : List Name) (rs : List ℕ) → t ≡ noted ns rs → Fine ns
       → Either-way r
-      ((f : Expr) × Part-read s r endsFactor ns rs f
-      × ((l : Left) → Goes s (r .left) d (λ ks. wanting l ks) ns (λ ks. having l f ks) (ns ++ names f)))
-      ((l : Left) → Stops s r d (λ ks. wanting l ks) ns)
+      ((b : B) × Part-read s r ends ns rs (whole b) × ((a : A) → Goes s (r .left) d (from a) ns (to a b) (ns ++ names (whole b))))
+      ((a : A) → Stops s r d (from a) ns)
 
--- `ends` tells the tokens that may stand behind what was read
-pub record SequenceRead (ends : Token → Bool) (s : List ℕ) (d : ℕ) (t : Table) (r : Reading) : Type 0 where
-  pub within : r .left ≤ length s
-  pub fewer : r .number ≡ 0 → r .left < length s
-  pub outcome : (ns : List Name) (rs : List ℕ) → t ≡ noted ns rs → Fine ns
-      → Either-way r
-      ((run : Option Expr) × (f : Expr) × Part-read s r ends ns rs (thenAfter run f)
-      × ((sum : Option Expr)
-      → Goes s (r .left) d (λ ks. wanting (onSum sum none) ks) ns (λ ks. having (onSum sum run) f ks) (ns ++ names (thenAfter run f))))
-      ((sum : Option Expr) → Stops s r d (λ ks. wanting (onSum sum none) ks) ns)
+-- a factor, whatever stands to its left
+abbrev pub FactorRead : List ℕ → ℕ → Table → Reading → Type 0
+FactorRead = Reads-as {A = Left} {B = Expr} (λ l ks. wanting l ks) (λ l f ks. having l f ks) (λ f. f) endsFactor
 
-pub record ExpressionRead (ends : Token → Bool) (s : List ℕ) (d : ℕ) (t : Table) (r : Reading) : Type 0 where
-  pub within : r .left ≤ length s
-  pub outcome : (ns : List Name) (rs : List ℕ) → t ≡ noted ns rs → Fine ns
-      → Either-way r
-      ((l : Left) × (f : Expr) × Part-read s r ends ns rs (sumTo l f)
-      × Goes s (r .left) d (λ ks. wanting nothingLeft ks) ns (λ ks. having l f ks) (ns ++ names (sumTo l f)))
-      (Stops s r d (λ ks. wanting nothingLeft ks) ns)
+-- a sequence, whatever sum stands to its left: all but its last factor, and that
+abbrev pub Run : Type 0
+Run = Option Expr × Expr
+
+abbrev pub SequenceRead : (Token → Bool) → List ℕ → ℕ → Table → Reading → Type 0
+SequenceRead =
+    Reads-as {A = Option Expr} {B = Run} (λ sum ks. wanting (onSum sum none) ks) (λ sum b ks. having (onSum sum (b .0)) (b .1) ks)
+    (λ b. thenAfter (b .0) (b .1))
+
+-- an expression: all but its last factor, and that
+abbrev pub Sum : Type 0
+Sum = Left × Expr
+
+abbrev pub ExpressionRead : (Token → Bool) → List ℕ → ℕ → Table → Reading → Type 0
+ExpressionRead =
+    Reads-as {A = Unit {0}} {B = Sum} (λ _ ks. wanting nothingLeft ks) (λ _ b ks. having (b .0) (b .1) ks) (λ b. sumTo (b .0) (b .1))

@@ -420,7 +420,7 @@ sequence-factor-requires t c κs = (omega (arith, c .before .pre .0), tt)
 
 sequence-returns : (t : ℕ) → sequence-lts.Need-returns (sequence-calls t) (sequence-at t) sequence.Post sequence-Inv-loop sequence-μ-loop
 sequence-returns t c =
-    sequences.sequence-refused _ _ _ endsFactor _ _ (sequences.sequence-starts _ _ _ _ (c .before .before .factor .ensures))
+    sequences.sequence-refused _ _ _ _ (sequences.sequence-starts _ _ _ _ (c .before .before .factor .ensures))
     (c .if1 .taken)
 
 sequence-loop-holds : (t : ℕ) → sequence-lts.Need-loop-holds (sequence-calls t) (sequence-at t) sequence.Post sequence-Inv-loop
