@@ -12,7 +12,7 @@ use Rattle.text.proofs.Reading.{start-within-used, used-within-text, name-reach
 use Rattle.table.specs.declared.cells.Table.{Table}
 use Rattle.parts.specs.Parts.{placed}
 use Rattle.parts.specs.declared.placing.Placed.{Placed}
-use Rattle.compiler.specs.Reading.{begins, Starry, FactorRead, ExpressionRead, endsExpression, closed, halted, unfit}
+use Rattle.compiler.specs.Reading.{begins, StarryRead, FactorRead, ExpressionRead, endsExpression, closed, halted, unfit}
 use Rattle.compiler.specs.declared.readers.Reading.{Reading}
 use Rattle.compiler.proofs.Tails.{slice, slice-size}
 use Rattle.compiler.proofs.Endings.{moves}
@@ -66,19 +66,19 @@ module _ (s : List ℕ) (u : Read) (told : u ≡ nextToken s) where
           subst (λ (v : Read). (p .number ≡ 0 → ⊥) → r ≡ halted (p .number) (length s - v .start) t → FactorRead s d t r) (sym told)
           (factor-limit s d t m is-name p is-placed r)
 
-      pub reads-name : p .number ≡ 0 → Starry s (record { number = 0; left = length s - u .used; part = p .part }) r → FactorRead s d t r
+      pub reads-name : p .number ≡ 0 → StarryRead s (record { number = 0; left = length s - u .used; part = p .part }) r → FactorRead s d t r
       reads-name =
-          subst (λ (v : Read). p .number ≡ 0 → Starry s (record { number = 0; left = length s - v .used; part = p .part }) r →
+          subst (λ (v : Read). p .number ≡ 0 → StarryRead s (record { number = 0; left = length s - v .used; part = p .part }) r →
           FactorRead s d t r)
           (sym told) (factor-name s d t m is-name p is-placed r)
 
     pub reads-open : u .token ≡ Open → d < 16 → (e : Reading)
-        → ExpressionRead endsExpression (slice s (u .used)) (d + 1) t e → (q : Reading) → q ≡ closed s e → Starry s q r → FactorRead s d t r
+        → ExpressionRead endsExpression (slice s (u .used)) (d + 1) t e → (q : Reading) → q ≡ closed s e → StarryRead s q r → FactorRead s d t r
     reads-open =
         subst
         (λ (v : Read).
         v .token ≡ Open → d < 16 → (e : Reading) → ExpressionRead endsExpression (slice s (v .used)) (d + 1) t e → (q : Reading)
-        → q ≡ closed s e → Starry s q r → FactorRead s d t r)
+        → q ≡ closed s e → StarryRead s q r → FactorRead s d t r)
         (sym told)
         (λ is-open shallow e inner q is-closed starry. factor-open s d t is-open shallow e inner q r is-closed starry)
 

@@ -26,7 +26,7 @@ use Rattle.parts.specs.Progress.{noted, Fine, partOf, starTimes}
 use Rattle.parts.specs.declared.placing.Placed.{Placed}
 use Rattle.parts.proofs.Laws.{part-stars, names-starred}
 use Rattle.parts.proofs.NameParts.{nameLimit, placed-number, placed-part, placed-fine}
-use Rattle.compiler.specs.Reading.{begins, Tail, Starry, FactorRead, verdict, endsExpression, isClose, halted, unfit}
+use Rattle.compiler.specs.Reading.{begins, Tail, StarryRead, FactorRead, verdict, endsExpression, isClose, halted, unfit}
 use Rattle.compiler.specs.declared.readers.Reading.{Reading}
 use Rattle.compiler.proofs.Verdicts.{is-opening, is-name, place, stuckAt, verdict-symbol, verdict-stuck}
 
@@ -170,7 +170,7 @@ module _ (s : List ℕ) (d : ℕ) (t : Table) where
 
       -- a name, with the stars behind it
       pub factor-name : (r : Reading) → p .number ≡ 0
-          → Starry s (record { number = 0; left = length s - nextToken s .used; part = p .part }) r → FactorRead s d t r
+          → StarryRead s (record { number = 0; left = length s - nextToken s .used; part = p .part }) r → FactorRead s d t r
       factor-name r z starry =
           record {
             within = omega (arith, starry .within);

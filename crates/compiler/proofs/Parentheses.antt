@@ -23,7 +23,7 @@ use Rattle.grammar.specs.Machine.Verdict.{refused}
 use Rattle.table.specs.declared.cells.Table.{Table}
 use Rattle.parts.specs.Progress.{Fine, partOf, starTimes}
 use Rattle.parts.proofs.Laws.{part-stars, names-starred}
-use Rattle.compiler.specs.Reading.{Sum, Tail, Goes, Stops, Starry, FactorRead, ExpressionRead, Part-read, verdict, behind, endsFactor, endsExpression, isClose, closed, halted, Either-way, unfit}
+use Rattle.compiler.specs.Reading.{Sum, Tail, Goes, Stops, StarryRead, FactorRead, ExpressionRead, Part-read, verdict, behind, endsFactor, endsExpression, isClose, closed, halted, Either-way, unfit}
 use Rattle.compiler.specs.declared.readers.Reading.{Reading}
 use Rattle.compiler.proofs.Tails.{slice}
 use Rattle.compiler.proofs.Verdicts.{is-closing, place}
@@ -98,7 +98,7 @@ module _ (s : List ℕ) (d : ℕ) (t : Table) (is-open : nextToken s .token ≡ 
       e .token) _ ended c)
 
   -- what the reader of factors answers: the expression, closed, with its stars
-  module _ (q r : Reading) (is-closed-of : q ≡ closed s e) (starry : Starry s q r) where
+  module _ (q r : Reading) (is-closed-of : q ≡ closed s e) (starry : StarryRead s q r) where
     -- a refusal inside is a refusal of the whole
     refused-inside : (ns : List Name) → (e .number ≡ 0 → ⊥) → Stops (inside s) e (d + 1) (λ ks. wanting nothingLeft ks) ns
         → (r .number ≡ 0 → ⊥) × ((l : Left) → Stops s r d (λ ks. wanting l ks) ns)

@@ -15,13 +15,13 @@ use Rattle.grammar.specs.Machine.{Left}
 use Rattle.grammar.specs.Machine.State.{having}
 use Rattle.parts.specs.Parts.{starred}
 use Rattle.parts.specs.Progress.{starTimes}
-use Rattle.compiler.specs.Reading.{Tail, Starred, Starry, verdict, endsFactor}
+use Rattle.compiler.specs.Reading.{Tail, StarsRead, StarryRead, verdict, endsFactor}
 use Rattle.compiler.specs.declared.readers.Reading.{Reading}
 use Rattle.compiler.specs.declared.readers.Starring.{Starring}
 use Rattle.compiler.proofs.Tails.{slice, slice-drops}
 use Rattle.compiler.proofs.Endings.{ending, ending-size, ending-tail}
 
-pub starry-refused : (s : List ℕ) (p : Reading) → (p .number ≡ 0 → ⊥) → Starry s p p
+pub starry-refused : (s : List ℕ) (p : Reading) → (p .number ≡ 0 → ⊥) → StarryRead s p p
 starry-refused s p n =
     record {
       within = omega arith;
@@ -33,10 +33,10 @@ starry-refused s p n =
       goes = λ z. absurd (n z);
     }
 
-module _ (s : List ℕ) (p : Reading) (st : Starring) (z : p .number ≡ 0) (w : p .left ≤ length s) (g : Starred (slice s (length s - p .left)) st) where
-  stars-at : Starred (ending s p w) st
+module _ (s : List ℕ) (p : Reading) (st : Starring) (z : p .number ≡ 0) (w : p .left ≤ length s) (g : StarsRead (slice s (length s - p .left)) st) where
+  stars-at : StarsRead (ending s p w) st
   unfolding ending
-  stars-at = subst (λ (v : List ℕ). Starred v st) (slice-drops s (length s - p .left)) g
+  stars-at = subst (λ (v : List ℕ). StarsRead v st) (slice-drops s (length s - p .left)) g
 
   pub stars-fit : st .used ≤ p .left
   stars-fit = omega (arith, stars-at .within, ending-size s p w)
@@ -59,7 +59,7 @@ module _ (s : List ℕ) (p : Reading) (st : Starring) (z : p .number ≡ 0) (w :
       (ap (λ (k : ℕ). drop k s) (sym far) ∙ sym (drop-drop (st .used) (length s - p .left) s))
       ∙ stars-at .ends
 
-  pub starry-plain : st .any ≡ false → Starry s p p
+  pub starry-plain : st .any ≡ false → StarryRead s p p
   starry-plain e =
       let none : p .left ≡ p .left - st .used = omega (arith, stars-at .none-if e) in
       record {
@@ -77,7 +77,7 @@ module _ (s : List ℕ) (p : Reading) (st : Starring) (z : p .number ≡ 0) (w :
     left = p .left - st .used;
     part = starred
         (p .part);
-  } → Starry s p r
+  } → StarryRead s p r
   starry-starred r e is =
       let left : r .left ≡ p .left - st .used = ap (λ (q : Reading). q .left) is in
       record {

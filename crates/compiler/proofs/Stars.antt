@@ -17,7 +17,7 @@ use Rattle.grammar.specs.Symbols.Symbol.{asterisk}
 use Rattle.grammar.specs.Machine.{Left, stepTo, haveStep, depthOf, limitAt, namesOn, stepped, limited}
 use Rattle.grammar.specs.Machine.State.{having}
 use Rattle.parts.specs.Progress.{starTimes}
-use Rattle.compiler.specs.Reading.{Goes, Tail, Starred, verdict, endsFactor}
+use Rattle.compiler.specs.Reading.{Goes, Tail, StarsRead, verdict, endsFactor}
 use Rattle.compiler.proofs.Tails.{slice, slice-drops, tail-drop}
 use Rattle.compiler.proofs.Verdicts.{is-asterisk, verdict-symbol}
 use Rattle.compiler.proofs.Endings.{moves}
@@ -88,7 +88,7 @@ module _ (s : List ℕ) (any : Bool) (used : ℕ) (far : Stars-so-far s any used
               (ap (λ (q : Read). length at - q .used) (sym next-at) ∙ ap (λ (k : ℕ). k - r .used) size-at ∙ left);
         }
 
-    pub stars-end : endsFactor (r .token) ≡ true → Starred s (record { any = any; used = used })
+    pub stars-end : endsFactor (r .token) ≡ true → StarsRead s (record { any = any; used = used })
     unfolding at
     stars-end e =
         record {

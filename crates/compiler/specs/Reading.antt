@@ -172,7 +172,7 @@ Stops s r d from ns =
     → verdict text (length s) (from ks) ns ≡ refused (r .number) (length text - r .left)
 
 -- stars were read from the front of s, and none stands behind them
-pub record Starred (s : List ℕ) (r : Starring) : Type 0 where
+pub record StarsRead (s : List ℕ) (r : Starring) : Type 0 where
   pub within : r .used ≤ length s
   pub times : ℕ
   pub any-if : r .any ≡ not (eqb times 0)
@@ -182,7 +182,7 @@ pub record Starred (s : List ℕ) (r : Starring) : Type 0 where
       → Goes s (length s - r .used) d (λ ks. having l f ks) ns (λ ks. having l (starTimes times f) ks) ns
 
 -- p with its stars
-pub record Starry (s : List ℕ) (p r : Reading) : Type 0 where
+pub record StarryRead (s : List ℕ) (p r : Reading) : Type 0 where
   pub within : r .left ≤ p .left
   pub refused-stays : (p .number ≡ 0 → ⊥) → r ≡ p
   pub times : ℕ

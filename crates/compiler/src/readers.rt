@@ -3,7 +3,7 @@
 ghost use mathlib.Core.Path.{_≡_};
 ghost use Prim.Native.Nat.{_+_, _≤_};
 ghost use lib.ListN.{length};
-ghost use Rattle.compiler.specs.Reading.{unfit, halted, closed, thenRead, orRead, factorFrom, sequenceFrom, endsSequence, endsExpression, refusedAt, concluded, ended, Starred, Starry, FactorRead, SequenceRead, ExpressionRead};
+ghost use Rattle.compiler.specs.Reading.{unfit, halted, closed, thenRead, orRead, factorFrom, sequenceFrom, endsSequence, endsExpression, refusedAt, concluded, ended, StarsRead, StarryRead, FactorRead, SequenceRead, ExpressionRead};
 ghost use Rattle.compiler.specs.Compiling.{Compiles};
 use crate::replies::Compiled;
 use crate::replies::Refusal;
@@ -141,7 +141,7 @@ fn next_sequence(s: &[u8], left: usize) -> Onward
 
 // Any number of `*`, in a loop: thousands of them must not deepen the stack.
 fn stars(s: &[u8]) -> Starring
-    ensures { λ r. ⌜ Starred (now (s .entry)) r ⌝ }
+    ensures { λ r. ⌜ StarsRead (now (s .entry)) r ⌝ }
 {
     let mut any = false;
     let mut used: usize = 0;
@@ -166,7 +166,7 @@ fn stars(s: &[u8]) -> Starring
 // p, with the stars that may follow it.
 fn starry(s: &[u8], p: Reading) -> Reading
     requires { ⌜ p .left ≤ length (now s) ⌝ }
-    ensures { λ r. ⌜ Starry (now (s .entry)) p r ⌝ }
+    ensures { λ r. ⌜ StarryRead (now (s .entry)) p r ⌝ }
 {
     if p.number != 0 {
         return p;
