@@ -315,10 +315,10 @@ fn refuse(number: u8, place: usize) -> Compiled
     }
 }
 
-// The whole path, behind which nothing may stand; s is what is left, from place k on.
-fn conclude(s: &[u8], k: usize, p: Part) -> Compiled
-    requires { ⌜ k + length (now s) ≤ 4096 ⌝ }
-    ensures { λ r. ⌜ r ≡ concluded (now (s .entry)) k p ⌝ }
+// The whole path, behind which nothing may stand; s is what is left, from place `at` on.
+fn conclude(s: &[u8], at: usize, p: Part) -> Compiled
+    requires { ⌜ at + length (now s) ≤ 4096 ⌝ }
+    ensures { λ r. ⌜ r ≡ concluded (now (s .entry)) at p ⌝ }
 {
     let r = next(s);
     let token = r.token;
@@ -330,7 +330,7 @@ fn conclude(s: &[u8], k: usize, p: Part) -> Compiled
                 table: table,
             }
         }
-        _ => refuse(refusal_of(token), k + r.start),
+        _ => refuse(refusal_of(token), at + r.start),
     }
 }
 

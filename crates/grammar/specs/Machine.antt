@@ -1,4 +1,4 @@
--- The same, symbol by symbol from the left: what a reader with a stack does. Nothing here needs to be believed: Promises.antt says
+-- The grammar and the refusals, symbol by symbol from the left: what a reader with a stack does. Nothing here needs to be believed: Promises.antt says
 -- that it accepts and refuses exactly as Refusals.antt says. The compiler's readers follow it.
 use mathlib.Core.Bool.{cond, not, _&&_}
 use mathlib.Core.List.{List, [], _∷_, _++_}

@@ -55,6 +55,7 @@ pub record Within (ts : List Symbol) : Type 0 where
 
 -- a text that fits the grammar and the limits, and its expression; that no name has more than 16 bytes is part of `Reads`
 pub record Accepted (text : List ℕ) (e : Expr) : Type 0 where
+  -- the limit of the text itself
   pub short : length text ≤ 4096
   pub symbols : List Symbol
   pub read : Reads (items text) symbols

@@ -17,6 +17,7 @@ pub data Lexeme : Type 0 where
   symbol : Symbol → Lexeme
   bad long : Lexeme
 
+-- what stands in the text, and where
 pub record Item : Type 0 where
   pub place : ℕ
   pub lexeme : Lexeme

@@ -56,8 +56,7 @@ then l r =
 abbrev pub starred : Part → Part
 starred p = record { empty = true; first = p .first; last = p .last; table = followed (p .table) (p .last) (p .first) }
 
--- the whole: "the row of p is all that follows p, joined with the first set of the expression if p is in its last set. The start set is
--- the expression's first set"
+-- t, with the start set s
 abbrev pub started : Table → ℕ → Table
 started t s =
     record {
@@ -71,6 +70,8 @@ started t s =
       mark = t .mark;
     }
 
+-- the whole: "the row of p is all that follows p, joined with the first set of the expression if p is in its last set. The start set is
+-- the expression's first set"
 unfoldable pub completed : Part → Table
 completed p =
     marked (started (followed (p .table) (p .last) (p .first)) (p .first))

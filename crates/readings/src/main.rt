@@ -7,7 +7,7 @@ use table::cells::Table;
 use table::numbers::Operation;
 
 // The byte behind a text.
-const MARK: u8 = 126;
+const TILDE: u8 = 126;
 
 fn print(s: &[u8]) {
     io::write_all(STDOUT_FILENO, s);
@@ -120,7 +120,7 @@ fn main() {
     let mut from: usize = 0;
     for i in 0..65536usize {
         if i < n {
-            if input[i] == MARK {
+            if input[i] == TILDE {
                 if from <= i {
                     show(&input[from..i]);
                 }

@@ -7,10 +7,12 @@ use lib.ListN.{take}
 use Rattle.table.specs.declared.numbers.Operation.{Operation}
 use Rattle.table.specs.declared.cells.Table.{Table}
 
+-- operation o is among them
 unfoldable pub among : List Operation → ℕ → Bool
 among [] o = false
 among (x ∷ xs) o = eqb (x .0) o || among xs o
 
+-- none of them stands twice
 unfoldable pub noneTwice : List Operation → Bool
 noneTwice [] = true
 noneTwice (x ∷ xs) = not (among xs (x .0)) && noneTwice xs

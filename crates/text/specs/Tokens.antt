@@ -64,6 +64,7 @@ tokenFrom k (b ∷ s) =
 unfoldable pub nextToken : List ℕ → Read
 nextToken s = tokenFrom (span blankByte s) (drop (span blankByte s) s)
 
+-- the token is a name
 abbrev pub isName : Token → Bool
 isName Semicolon = false
 isName Plus = false

@@ -10,55 +10,42 @@ Inv-loop input n from₀ i₀ from i = i ≤ 65536
 abbrev μ-loop : tie.MeasureT-loop
 μ-loop input n from₀ i₀ from i = 65536 - i
 
--- src/main.rt:118:21
 large-buffer-requires : tie.Need-large-buffer-requires Inv-loop μ-loop
 large-buffer-requires c κs = search needs
 
--- src/main.rt:119:30
 slice-aggregate-read-full : tie.Need-slice-aggregate-read-full Inv-loop μ-loop
 slice-aggregate-read-full c = search needs
 
--- src/main.rt:119:9
 read-full-requires : tie.Need-read-full-requires Inv-loop μ-loop
 read-full-requires c κs = search needs
 
--- src/main.rt:121:5
 loop-holds : tie.Need-loop-holds Inv-loop μ-loop
 loop-holds c = search needs
 
--- src/main.rt:123:16
 array-read-if2 : tie.Need-array-read-if2 Inv-loop μ-loop
 array-read-if2 c = search needs
 
--- src/main.rt:125:26
 part-show-start : tie.Need-part-show-start Inv-loop μ-loop
 part-show-start c = search needs
 
--- src/main.rt:125:26
 part-show-end : tie.Need-part-show-end Inv-loop μ-loop
 part-show-end c = search needs
 
--- src/main.rt:125:21
 show-requires : tie.Need-show-requires Inv-loop μ-loop
 show-requires c κs = search needs
 
--- src/main.rt:127:24
 add-from : tie.Need-add-from Inv-loop μ-loop
 add-from c = search needs
 
--- src/main.rt:121:9
 add-i : tie.Need-add-i Inv-loop μ-loop
 add-i c = search needs
 
--- src/main.rt:121:5
 loop-less : tie.Need-loop-less Inv-loop μ-loop
 loop-less c = search needs
 
--- src/main.rt:121:5
 loop-again : tie.Need-loop-again Inv-loop μ-loop
 loop-again c = search needs
 
--- src/main.rt:117:1
 returns : tie.Need-returns Inv-loop μ-loop
 returns c = search needs
 

@@ -10,39 +10,30 @@ Inv-loop bytes n lengths i₀ i = i ≤ 32
 abbrev μ-loop : tie.MeasureT-loop
 μ-loop bytes n lengths i₀ i = 32 - i
 
--- src/main.rt:72:11
 slice-aggregate-print : tie.Need-slice-aggregate-print Inv-loop μ-loop
 slice-aggregate-print c = search needs
 
--- src/main.rt:72:5
 print-requires : tie.Need-print-requires Inv-loop μ-loop
 print-requires c κs = search needs
 
--- src/main.rt:73:5
 loop-holds : tie.Need-loop-holds Inv-loop μ-loop
 loop-holds c = search needs
 
--- src/main.rt:75:34
 array-read-print-name : tie.Need-array-read-print-name Inv-loop μ-loop
 array-read-print-name c = search needs
 
--- src/main.rt:75:13
 print-name-requires : tie.Need-print-name-requires Inv-loop μ-loop
 print-name-requires c κs = search needs
 
--- src/main.rt:73:9
 add-i : tie.Need-add-i Inv-loop μ-loop
 add-i c = search needs
 
--- src/main.rt:73:5
 loop-less : tie.Need-loop-less Inv-loop μ-loop
 loop-less c = search needs
 
--- src/main.rt:73:5
 loop-again : tie.Need-loop-again Inv-loop μ-loop
 loop-again c = search needs
 
--- src/main.rt:71:1
 returns : tie.Need-returns Inv-loop μ-loop
 returns c = search needs
 

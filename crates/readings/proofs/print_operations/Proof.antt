@@ -10,39 +10,30 @@ Inv-loop n operations p₀ p = p ≤ 64
 abbrev μ-loop : tie.MeasureT-loop
 μ-loop n operations p₀ p = 64 - p
 
--- src/main.rt:51:11
 slice-aggregate-print : tie.Need-slice-aggregate-print Inv-loop μ-loop
 slice-aggregate-print c = search needs
 
--- src/main.rt:51:5
 print-requires : tie.Need-print-requires Inv-loop μ-loop
 print-requires c κs = search needs
 
--- src/main.rt:52:5
 loop-holds : tie.Need-loop-holds Inv-loop μ-loop
 loop-holds c = search needs
 
--- src/main.rt:54:29
 array-copy-out-print-operation : tie.Need-array-copy-out-print-operation Inv-loop μ-loop
 array-copy-out-print-operation c = search needs
 
--- src/main.rt:54:13
 print-operation-requires : tie.Need-print-operation-requires Inv-loop μ-loop
 print-operation-requires c κs = search needs
 
--- src/main.rt:52:9
 add-p : tie.Need-add-p Inv-loop μ-loop
 add-p c = search needs
 
--- src/main.rt:52:5
 loop-less : tie.Need-loop-less Inv-loop μ-loop
 loop-less c = search needs
 
--- src/main.rt:52:5
 loop-again : tie.Need-loop-again Inv-loop μ-loop
 loop-again c = search needs
 
--- src/main.rt:50:1
 returns : tie.Need-returns Inv-loop μ-loop
 returns c = search needs
 

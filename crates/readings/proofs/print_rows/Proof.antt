@@ -10,43 +10,33 @@ Inv-loop n rows p₀ p = p ≤ 64
 abbrev μ-loop : tie.MeasureT-loop
 μ-loop n rows p₀ p = 64 - p
 
--- src/main.rt:37:11
 slice-aggregate-print : tie.Need-slice-aggregate-print Inv-loop μ-loop
 slice-aggregate-print c = search needs
 
--- src/main.rt:37:5
 print-requires : tie.Need-print-requires Inv-loop μ-loop
 print-requires c κs = search needs
 
--- src/main.rt:38:5
 loop-holds : tie.Need-loop-holds Inv-loop μ-loop
 loop-holds c = search needs
 
--- src/main.rt:40:23
 mul-print-set : tie.Need-mul-print-set Inv-loop μ-loop
 mul-print-set c = search needs
 
--- src/main.rt:40:23
 array-read-print-set : tie.Need-array-read-print-set Inv-loop μ-loop
 array-read-print-set c = search needs
 
--- src/main.rt:40:13
 print-set-requires : tie.Need-print-set-requires Inv-loop μ-loop
 print-set-requires c κs = search needs
 
--- src/main.rt:38:9
 add-p : tie.Need-add-p Inv-loop μ-loop
 add-p c = search needs
 
--- src/main.rt:38:5
 loop-less : tie.Need-loop-less Inv-loop μ-loop
 loop-less c = search needs
 
--- src/main.rt:38:5
 loop-again : tie.Need-loop-again Inv-loop μ-loop
 loop-again c = search needs
 
--- src/main.rt:36:1
 returns : tie.Need-returns Inv-loop μ-loop
 returns c = search needs
 

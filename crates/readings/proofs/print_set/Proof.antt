@@ -10,55 +10,42 @@ Inv-loop s rest₀ p₀ t5 t6 rest p = p ≤ 64
 abbrev μ-loop : tie.MeasureT-loop
 μ-loop s rest₀ p₀ t5 t6 rest p = 64 - p
 
--- src/main.rt:22:11
 slice-aggregate-print : tie.Need-slice-aggregate-print Inv-loop μ-loop
 slice-aggregate-print c = search needs
 
--- src/main.rt:22:5
 print-requires : tie.Need-print-requires Inv-loop μ-loop
 print-requires c κs = search needs
 
--- src/main.rt:24:5
 loop-holds : tie.Need-loop-holds Inv-loop μ-loop
 loop-holds c = search needs
 
--- src/main.rt:26:26
 add-print-number : tie.Need-add-print-number Inv-loop μ-loop
 add-print-number c = search needs
 
--- src/main.rt:26:13
 print-number-requires : tie.Need-print-number-requires Inv-loop μ-loop
 print-number-requires c κs = search needs
 
--- src/main.rt:28:23
 slice-aggregate-print-2 : tie.Need-slice-aggregate-print-2 Inv-loop μ-loop
 slice-aggregate-print-2 c = search needs
 
--- src/main.rt:28:17
 print-requires-2 : tie.Need-print-requires-2 Inv-loop μ-loop
 print-requires-2 c κs = search needs
 
--- src/main.rt:24:9
 add-p : tie.Need-add-p Inv-loop μ-loop
 add-p c = search needs
 
--- src/main.rt:24:5
 loop-less : tie.Need-loop-less Inv-loop μ-loop
 loop-less c = search needs
 
--- src/main.rt:24:5
 loop-again : tie.Need-loop-again Inv-loop μ-loop
 loop-again c = search needs
 
--- src/main.rt:33:11
 slice-aggregate-print-3 : tie.Need-slice-aggregate-print-3 Inv-loop μ-loop
 slice-aggregate-print-3 c = search needs
 
--- src/main.rt:33:5
 print-requires-3 : tie.Need-print-requires-3 Inv-loop μ-loop
 print-requires-3 c κs = search needs
 
--- src/main.rt:21:1
 returns : tie.Need-returns Inv-loop μ-loop
 returns c = search needs
 

@@ -7,64 +7,51 @@ use Rattle.compiler.proofs.Closing.{used-behind, start-behind, closed-c
 use Rattle.compiler.proofs.readers.close.Statement.{statement}
 use Rattle.compiler.proofs.readers.close.Tie as tie
 
--- src/readers.rt:176:9
 returns : tie.Need-returns
 unfolding closed
 returns c = simp (ne-eqb _ _ (c .if1 .taken))
 
--- src/readers.rt:180:13
 sub-k : tie.Need-sub-k
 sub-k c = search needs
 
--- src/readers.rt:181:18
 sub-next : tie.Need-sub-next
 sub-next c = search needs
 
--- src/readers.rt:181:18
 part-next-start : tie.Need-part-next-start
 part-next-start c = search needs
 
--- src/readers.rt:181:18
 part-next-end : tie.Need-part-next-end
 part-next-end c = search needs
 
--- src/readers.rt:181:9
 next-requires : tie.Need-next-requires
 next-requires c κs = search needs
 
--- src/readers.rt:186:19
 enum-told : tie.Need-enum-told
 enum-told c = search needs
 
--- src/readers.rt:186:19
 sub-t15 : tie.Need-sub-t15
 sub-t15 c = used-behind (c .before .before .before .before .before .before .before .before .before .args .s .now)
     (c .before .before .before .before .before .before .before .before .before .args .e) _
     (c .before .before .before .next .ensures) (c .before .before .before .before .before .before .before .before .before .pre)
 
--- src/readers.rt:191:18
 refusal-of-requires : tie.Need-refusal-of-requires
 refusal-of-requires c κs = search needs
 
--- src/readers.rt:191:36
 sub-halt : tie.Need-sub-halt
 sub-halt c = start-behind (c .before .before .before .before .before .before .before .before .before .before .args .s .now)
     (c .before .before .before .before .before .before .before .before .before .before .args .e) _
     (c .before .before .before .before .next .ensures)
     (c .before .before .before .before .before .before .before .before .before .before .pre)
 
--- src/readers.rt:191:13
 halt-requires : tie.Need-halt-requires
 halt-requires c κs = search needs
 
--- src/readers.rt:171:1
 returns-2 : tie.Need-returns-2
 returns-2 c = closed-closes (c .before .before .before .before .before .before .before .before .before .args .s .now)
     (c .before .before .before .before .before .before .before .before .before .args .e) _
     (c .before .before .before .next .ensures) (c .before .before .before .before .before .before .if1 .left)
     (c .before .enum-told .given .1)
 
--- src/readers.rt:171:1
 returns-3 : tie.Need-returns-3
 returns-3 c =
     closed-halts (c .before .before .before .before .before .before .before .before .before .before .before .args .s .now)

@@ -10,58 +10,45 @@ use Rattle.compiler.proofs.Wholes.{compile-long, compile-not-path, star
 use Rattle.compiler.proofs.readers.compile.Statement.{statement}
 use Rattle.compiler.proofs.readers.compile.Tie as tie
 
--- src/readers.rt:364:9
 refuse-requires : tie.Need-refuse-requires
 refuse-requires c κs = search needs
 
--- src/readers.rt:364:9
 returns : tie.Need-returns
 returns c = compiles _ _ (c .refuse .ensures ∙ compile-long _ (c .before .if1 .taken))
 
--- src/readers.rt:366:9
 next-requires : tie.Need-next-requires
 next-requires c κs = search needs
 
--- src/readers.rt:370:17
 enum-told : tie.Need-enum-told
 enum-told c = search needs
 
--- src/readers.rt:371:32
 sub-expression : tie.Need-sub-expression
 sub-expression c = used-fits _ _ (c .before .before .next .ensures)
 
--- src/readers.rt:371:32
 part-expression-start : tie.Need-part-expression-start
 part-expression-start c = used-fits _ _ (c .before .before .next .ensures)
 
--- src/readers.rt:371:32
 part-expression-end : tie.Need-part-expression-end
 part-expression-end c = search needs
 
--- src/readers.rt:371:50
 table-of-zeros-requires : tie.Need-table-of-zeros-requires
 table-of-zeros-requires c κs = search needs
 
--- src/readers.rt:371:17
 expression-requires : tie.Need-expression-requires
 expression-requires c κs = search needs
 
--- src/readers.rt:372:13
 end-requires : tie.Need-end-requires
 end-requires c κs = (
   inside-fits _ _ (c .before .before .before .before .before .next .ensures) _ _ _ (c .expression .ensures),
   omega (arith, c .before .before .before .before .before .before .if1 .left),
 )
 
--- src/readers.rt:374:21
 refusal-of-requires : tie.Need-refusal-of-requires
 refusal-of-requires c κs = search needs
 
--- src/readers.rt:374:14
 refuse-requires-2 : tie.Need-refuse-requires-2
 refuse-requires-2 c κs = search needs
 
--- src/readers.rt:360:1
 returns-2 : tie.Need-returns-2
 returns-2 c =
     compiles _ _
@@ -70,7 +57,6 @@ returns-2 c =
     (c .before .before .before .before .enum-told .given .1) _ _
     (c .before .before .table-of-zeros .ensures) (c .before .expression .ensures) _ (c .end .ensures))
 
--- src/readers.rt:360:1
 returns-3 : tie.Need-returns-3
 returns-3 c =
     compiles _ _

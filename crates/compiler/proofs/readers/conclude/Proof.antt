@@ -7,35 +7,27 @@ use Rattle.compiler.proofs.FactorPaths.{start-fits}
 use Rattle.compiler.proofs.readers.conclude.Statement.{statement}
 use Rattle.compiler.proofs.readers.conclude.Tie as tie
 
--- src/readers.rt:317:9
 next-requires : tie.Need-next-requires
 next-requires c κs = search needs
 
--- src/readers.rt:321:17
 enum-told : tie.Need-enum-told
 enum-told c = search needs
 
--- src/readers.rt:321:17
 complete-requires : tie.Need-complete-requires
 complete-requires c κs = search needs
 
--- src/readers.rt:327:21
 refusal-of-requires : tie.Need-refusal-of-requires
 refusal-of-requires c κs = search needs
 
--- src/readers.rt:327:39
 add-refuse : tie.Need-add-refuse
 add-refuse c = omega (arith, c .before .before .before .before .before .pre, start-fits _ _ (c .before .before .before .next .ensures))
 
--- src/readers.rt:327:14
 refuse-requires : tie.Need-refuse-requires
 refuse-requires c κs = search needs
 
--- src/readers.rt:313:1
 returns : tie.Need-returns
 returns c = concluded-accepts _ _ _ _ (c .before .before .before .next .ensures) (c .before .enum-told .given .1) _ (c .complete .ensures)
 
--- src/readers.rt:313:1
 returns-2 : tie.Need-returns-2
 returns-2 c =
     concluded-refuses _ _ _ _ (c .before .before .before .before .next .ensures) (not-text-end

@@ -6,39 +6,30 @@ use Rattle.compiler.proofs.Concluding.{ended-inside, ended-ends, ended-
 use Rattle.compiler.proofs.readers.end.Statement.{statement}
 use Rattle.compiler.proofs.readers.end.Tie as tie
 
--- src/readers.rt:337:13
 sub-k : tie.Need-sub-k
 sub-k c = search needs
 
--- src/readers.rt:339:9
 refuse-requires : tie.Need-refuse-requires
 refuse-requires c κs = search needs
 
--- src/readers.rt:339:9
 returns : tie.Need-returns
 returns c = ended-inside _ _ (c .before .if1 .taken) _ (c .refuse .ensures)
 
--- src/readers.rt:342:18
 sub-next : tie.Need-sub-next
 sub-next c = search needs
 
--- src/readers.rt:342:18
 part-next-start : tie.Need-part-next-start
 part-next-start c = search needs
 
--- src/readers.rt:342:18
 part-next-end : tie.Need-part-next-end
 part-next-end c = search needs
 
--- src/readers.rt:342:9
 next-requires : tie.Need-next-requires
 next-requires c κs = search needs
 
--- src/readers.rt:346:24
 enum-told : tie.Need-enum-told
 enum-told c = search needs
 
--- src/readers.rt:346:24
 add-from : tie.Need-add-from
 add-from c = omega (
   arith,
@@ -49,25 +40,21 @@ add-from c = omega (
   c .before .before .before .before .before .before .before .before .before .pre .1,
 )
 
--- src/readers.rt:347:22
 sub-conclude : tie.Need-sub-conclude
 sub-conclude c = end-fits (c .before .before .before .before .before .before .before .before .before .args .text .now)
     (c .before .before .before .before .before .before .before .before .before .args .e)
     (c .before .before .before .before .before .before .if1 .left) _ (c .before .before .before .next .ensures)
     (c .before .before .before .before .before .before .before .before .before .pre .0)
 
--- src/readers.rt:347:22
 part-conclude-start : tie.Need-part-conclude-start
 part-conclude-start c = end-fits (c .before .before .before .before .before .before .before .before .before .args .text .now)
     (c .before .before .before .before .before .before .before .before .before .args .e)
     (c .before .before .before .before .before .before .if1 .left) _ (c .before .before .before .next .ensures)
     (c .before .before .before .before .before .before .before .before .before .pre .0)
 
--- src/readers.rt:347:22
 part-conclude-end : tie.Need-part-conclude-end
 part-conclude-end c = search needs
 
--- src/readers.rt:347:13
 conclude-requires : tie.Need-conclude-requires
 conclude-requires c κs = omega (
   arith,
@@ -79,11 +66,9 @@ conclude-requires c κs = omega (
   c .before .before .before .before .before .before .before .before .before .before .pre .1,
 )
 
--- src/readers.rt:349:21
 refusal-of-requires : tie.Need-refusal-of-requires
 refusal-of-requires c κs = search needs
 
--- src/readers.rt:349:39
 add-refuse : tie.Need-add-refuse
 add-refuse c = omega (
   arith,
@@ -95,17 +80,14 @@ add-refuse c = omega (
   c .before .before .before .before .before .before .before .before .before .pre .1,
 )
 
--- src/readers.rt:349:14
 refuse-requires-2 : tie.Need-refuse-requires-2
 refuse-requires-2 c κs = search needs
 
--- src/readers.rt:332:1
 returns-2 : tie.Need-returns-2
 returns-2 c = ended-ends _ _ (c .before .before .before .before .before .before .before .before .if1 .left) _
     (c .before .before .before .before .before .next .ensures) (c .before .before .before .enum-told .given .1) _
     (c .conclude .ensures)
 
--- src/readers.rt:332:1
 returns-3 : tie.Need-returns-3
 returns-3 c =
     ended-refuses _ _ (c .before .before .before .before .before .before .before .if1 .left) _

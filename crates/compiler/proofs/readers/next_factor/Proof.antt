@@ -8,31 +8,24 @@ use Rattle.compiler.proofs.Onwards.{next-fits, goes-by}
 use Rattle.compiler.proofs.readers.next_factor.Statement.{statement}
 use Rattle.compiler.proofs.readers.next_factor.Tie as tie
 
--- src/readers.rt:117:13
 sub-k : tie.Need-sub-k
 sub-k c = search needs
 
--- src/readers.rt:118:18
 sub-next : tie.Need-sub-next
 sub-next c = search needs
 
--- src/readers.rt:118:18
 part-next-start : tie.Need-part-next-start
 part-next-start c = search needs
 
--- src/readers.rt:118:18
 part-next-end : tie.Need-part-next-end
 part-next-end c = search needs
 
--- src/readers.rt:118:9
 next-requires : tie.Need-next-requires
 next-requires c κs = search needs
 
--- src/readers.rt:121:40
 enum-told : tie.Need-enum-told
 enum-told c = search needs
 
--- src/readers.rt:121:40
 add-t11 : tie.Need-add-t11
 add-t11 c = omega (
   arith,
@@ -42,33 +35,27 @@ add-t11 c = omega (
   c .before .before .before .before .before .before .good,
 )
 
--- src/readers.rt:122:27
 enum-told-2 : tie.Need-enum-told-2
 enum-told-2 c = search needs
 
--- src/readers.rt:123:24
 enum-told-3 : tie.Need-enum-told-3
 enum-told-3 c = search needs
 
--- src/readers.rt:113:1
 returns : tie.Need-returns
 returns c = goes-by (c .before .before .before .before .before .before .args .s .now)
     (c .before .before .before .before .before .before .args .left) _ (c .before .before .before .next .ensures) factorBy _
     (c .before .enum-told .given .1) _ refl
 
--- src/readers.rt:113:1
 returns-2 : tie.Need-returns-2
 returns-2 c = goes-by (c .before .before .before .before .before .args .s .now)
     (c .before .before .before .before .before .args .left) _ (c .before .before .next .ensures) factorBy _
     (c .enum-told2 .given .1) _ refl
 
--- src/readers.rt:113:1
 returns-3 : tie.Need-returns-3
 returns-3 c = goes-by (c .before .before .before .before .before .args .s .now)
     (c .before .before .before .before .before .args .left) _ (c .before .before .next .ensures) factorBy _
     (c .enum-told3 .given .1) _ refl
 
--- src/readers.rt:113:1
 returns-4 : tie.Need-returns-4
 returns-4 c =
     goes-by (c .before .before .before .before .args .s .now) (c .before .before .before .before .args .left) _

@@ -8,31 +8,24 @@ use Rattle.compiler.proofs.Onwards.{next-fits, goes-by}
 use Rattle.compiler.proofs.readers.next_sequence.Statement.{statement}
 use Rattle.compiler.proofs.readers.next_sequence.Tie as tie
 
--- src/readers.rt:133:13
 sub-k : tie.Need-sub-k
 sub-k c = search needs
 
--- src/readers.rt:134:18
 sub-next : tie.Need-sub-next
 sub-next c = search needs
 
--- src/readers.rt:134:18
 part-next-start : tie.Need-part-next-start
 part-next-start c = search needs
 
--- src/readers.rt:134:18
 part-next-end : tie.Need-part-next-end
 part-next-end c = search needs
 
--- src/readers.rt:134:9
 next-requires : tie.Need-next-requires
 next-requires c κs = search needs
 
--- src/readers.rt:137:35
 enum-told : tie.Need-enum-told
 enum-told c = search needs
 
--- src/readers.rt:137:35
 add-t11 : tie.Need-add-t11
 add-t11 c = omega (
   arith,
@@ -42,13 +35,11 @@ add-t11 c = omega (
   c .before .before .before .before .before .before .good,
 )
 
--- src/readers.rt:129:1
 returns : tie.Need-returns
 returns c = goes-by (c .before .before .before .before .before .before .args .s .now)
     (c .before .before .before .before .before .before .args .left) _ (c .before .before .before .next .ensures) sequenceBy _
     (c .before .enum-told .given .1) _ refl
 
--- src/readers.rt:129:1
 returns-2 : tie.Need-returns-2
 returns-2 c =
     goes-by (c .before .before .before .before .args .s .now) (c .before .before .before .before .args .left) _

@@ -3,11 +3,9 @@ use borrow.Author.Needs.{needs}
 use Rattle.compiler.proofs.readers.or_read.Statement.{statement}
 use Rattle.compiler.proofs.readers.or_read.Tie as tie
 
--- src/readers.rt:96:9
 either-part-requires : tie.Need-either-part-requires
 either-part-requires c κs = search needs
 
--- src/readers.rt:91:1
 returns : tie.Need-returns
 returns c = simp (c .either-part .ensures)
 

@@ -3,11 +3,9 @@ use borrow.Author.Needs.{needs}
 use Rattle.compiler.proofs.readers.refuse.Statement.{statement}
 use Rattle.compiler.proofs.readers.refuse.Tie as tie
 
--- src/readers.rt:302:9
 table-of-zeros-requires : tie.Need-table-of-zeros-requires
 table-of-zeros-requires c κs = search needs
 
--- src/readers.rt:299:1
 returns : tie.Need-returns
 returns c = simp (c .table-of-zeros .ensures)
 

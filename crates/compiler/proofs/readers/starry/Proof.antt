@@ -4,35 +4,27 @@ use Rattle.compiler.proofs.Starry.{starry-refused, starry-plain, starry
 use Rattle.compiler.proofs.readers.starry.Statement.{statement}
 use Rattle.compiler.proofs.readers.starry.Tie as tie
 
--- src/readers.rt:153:9
 returns : tie.Need-returns
 returns c = starry-refused _ _ (c .if1 .taken)
 
--- src/readers.rt:156:13
 sub-k : tie.Need-sub-k
 sub-k c = search needs
 
--- src/readers.rt:157:23
 sub-stars : tie.Need-sub-stars
 sub-stars c = search needs
 
--- src/readers.rt:157:23
 part-stars-start : tie.Need-part-stars-start
 part-stars-start c = search needs
 
--- src/readers.rt:157:23
 part-stars-end : tie.Need-part-stars-end
 part-stars-end c = search needs
 
--- src/readers.rt:157:9
 stars-requires : tie.Need-stars-requires
 stars-requires c κs = search needs
 
--- src/readers.rt:160:13
 star-part-requires : tie.Need-star-part-requires
 star-part-requires c κs = search needs
 
--- src/readers.rt:163:19
 sub-t13 : tie.Need-sub-t13
 sub-t13 c = stars-fit (c .before .before .before .before .before .before .before .before .before .args .s .now)
     (c .before .before .before .before .before .before .before .before .before .args .p) _
@@ -40,7 +32,6 @@ sub-t13 c = stars-fit (c .before .before .before .before .before .before .before
     (c .before .before .before .before .before .before .before .before .before .pre)
     (c .before .before .before .before .stars .ensures)
 
--- src/readers.rt:161:9
 returns-2 : tie.Need-returns-2
 returns-2 c =
     starry-starred _ _ _ (c .before .before .before .before .before .before .if1 .left)
@@ -48,7 +39,6 @@ returns-2 c =
     (c .before .before .before .before .stars .ensures) _ (c .before .before .before .if2 .taken)
     (simp (c .before .star-part .ensures))
 
--- src/readers.rt:148:1
 returns-3 : tie.Need-returns-3
 returns-3 c = starry-plain _ _ _ (c .before .before .before .if1 .left) (c .before .before .before .before .before .before .pre)
     (c .before .stars .ensures) (c .if2 .left)

@@ -3,11 +3,9 @@ use borrow.Author.Needs.{needs}
 use Rattle.compiler.proofs.readers.then_read.Statement.{statement}
 use Rattle.compiler.proofs.readers.then_read.Tie as tie
 
--- src/readers.rt:82:9
 then-part-requires : tie.Need-then-part-requires
 then-part-requires c κs = search needs
 
--- src/readers.rt:77:1
 returns : tie.Need-returns
 returns c = simp (c .then-part .ensures)
 

@@ -4,15 +4,12 @@ use Rattle.parts.specs.Parts.{completed}
 use Rattle.parts.proofs.joining.complete.Statement.{statement}
 use Rattle.parts.proofs.joining.complete.Tie as tie
 
--- src/joining.rt:105:9
 follow-requires : tie.Need-follow-requires
 follow-requires c κs = search needs
 
--- src/joining.rt:107:9
 mark-of-requires : tie.Need-mark-of-requires
 mark-of-requires c κs = search needs
 
--- src/joining.rt:101:1
 returns : tie.Need-returns
 unfolding completed
 returns c = simp (c .mark-of .ensures, c .before .follow .ensures)

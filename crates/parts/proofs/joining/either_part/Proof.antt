@@ -3,11 +3,9 @@ use borrow.Author.Needs.{needs}
 use Rattle.parts.proofs.joining.either_part.Statement.{statement}
 use Rattle.parts.proofs.joining.either_part.Tie as tie
 
--- src/joining.rt:64:16
 any-requires : tie.Need-any-requires
 any-requires c κs = search needs
 
--- src/joining.rt:59:1
 returns : tie.Need-returns
 returns c = simp (c .before .before .before .before .any .ensures)
 

@@ -3,11 +3,9 @@ use borrow.Author.Needs.{needs}
 use Rattle.parts.proofs.joining.star_part.Statement.{statement}
 use Rattle.parts.proofs.joining.star_part.Tie as tie
 
--- src/joining.rt:90:9
 follow-requires : tie.Need-follow-requires
 follow-requires c κs = search needs
 
--- src/joining.rt:86:1
 returns : tie.Need-returns
 returns c = simp (c .follow .ensures)
 

@@ -3,23 +3,18 @@ use borrow.Author.Needs.{needs}
 use Rattle.parts.proofs.joining.then_part.Statement.{statement}
 use Rattle.parts.proofs.joining.then_part.Tie as tie
 
--- src/joining.rt:76:9
 follow-requires : tie.Need-follow-requires
 follow-requires c κs = search needs
 
--- src/joining.rt:78:16
 both-requires : tie.Need-both-requires
 both-requires c κs = search needs
 
--- src/joining.rt:79:16
 choose-requires : tie.Need-choose-requires
 choose-requires c κs = search needs
 
--- src/joining.rt:80:15
 choose-requires-2 : tie.Need-choose-requires-2
 choose-requires-2 c κs = search needs
 
--- src/joining.rt:72:1
 returns : tie.Need-returns
 returns c = simp (
   c .before .before .before .before .before .before .before .follow .ensures,

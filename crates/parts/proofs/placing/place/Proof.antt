@@ -4,43 +4,33 @@ use Rattle.parts.proofs.PlacePaths.{placed-long, placed-full, placed-kn
 use Rattle.parts.proofs.placing.place.Statement.{statement}
 use Rattle.parts.proofs.placing.place.Tie as tie
 
--- src/placing.rt:99:9
 refuse-requires : tie.Need-refuse-requires
 refuse-requires c κs = search needs
 
--- src/placing.rt:99:9
 returns : tie.Need-returns
 returns c = placed-long _ _ _ (c .before .if1 .taken) (c .refuse .ensures)
 
--- src/placing.rt:102:9
 refuse-requires-2 : tie.Need-refuse-requires-2
 refuse-requires-2 c κs = search needs
 
--- src/placing.rt:102:9
 returns-2 : tie.Need-returns-2
 returns-2 c = placed-full _ _ _ (c .before .before .before .if1 .left) (c .before .if2 .taken) (c .refuse2 .ensures)
 
--- src/placing.rt:107:9
 find-requires : tie.Need-find-requires
 find-requires c κs = search needs
 
--- src/placing.rt:109:19
 enum-known-found : tie.Need-enum-known-found
 enum-known-found c = search needs
 
--- src/placing.rt:109:25
 with-position-requires : tie.Need-with-position-requires
 with-position-requires c κs = search needs
 
--- src/placing.rt:111:16
 enum-told : tie.Need-enum-told
 enum-told c = search needs
 
--- src/placing.rt:112:17
 refuse-requires-3 : tie.Need-refuse-requires-3
 refuse-requires-3 c κs = search needs
 
--- src/placing.rt:112:17
 returns-3 : tie.Need-returns-3
 returns-3 c =
     placed-one-too-many _ _ _ (c .before .before .before .before .before .before .before .before .before .if1 .left)
@@ -48,25 +38,20 @@ returns-3 c =
     (c .before .before .before .before .find .ensures) (c .before .before .enum-told .given .1) (c .before .if3 .taken)
     (c .refuse3 .ensures)
 
--- src/placing.rt:114:27
 with-name-requires : tie.Need-with-name-requires
 with-name-requires c κs = search needs
 
--- src/placing.rt:114:57
 cast-t13 : tie.Need-cast-t13
 cast-t13 c = search needs
 
--- src/placing.rt:114:13
 with-position-requires-2 : tie.Need-with-position-requires-2
 with-position-requires-2 c κs = rw (c .with-name .ensures) (c .before .before .before .before .before .before .before .if2 .left)
 
--- src/placing.rt:95:1
 returns-4 : tie.Need-returns-4
 returns-4 c = placed-known _ _ _ (c .before .before .before .before .before .before .before .before .before .if1 .left)
     (c .before .before .before .before .before .before .before .if2 .left) _ (c .before .before .before .before .find .ensures)
     _ (c .before .before .found .given .1) (c .with-position .ensures)
 
--- src/placing.rt:95:1
 returns-5 : tie.Need-returns-5
 returns-5 c =
     placed-new _ _ _ (c .before .before .before .before .before .before .before .before .before .before .if1 .left)

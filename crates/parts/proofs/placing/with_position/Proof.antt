@@ -3,27 +3,21 @@ use borrow.Author.Needs.{needs}
 use Rattle.parts.proofs.placing.with_position.Statement.{statement}
 use Rattle.parts.proofs.placing.with_position.Tie as tie
 
--- src/placing.rt:80:5
 element-set-from-o : tie.Need-element-set-from-o
 element-set-from-o c = search needs
 
--- src/placing.rt:81:21
 add-out : tie.Need-add-out
 add-out c = search needs
 
--- src/placing.rt:82:32
 add-t8 : tie.Need-add-t8
 add-t8 c = search needs
 
--- src/placing.rt:82:31
 cast-t9 : tie.Need-cast-t9
 cast-t9 c = search needs
 
--- src/placing.rt:82:9
 set-of-requires : tie.Need-set-of-requires
 set-of-requires c κs = search needs
 
--- src/placing.rt:74:1
 returns : tie.Need-returns
 returns c = simp (c .set-of .ensures)
 

@@ -17,31 +17,24 @@ Inv-loop at name out₀ i₀ out i = (length out₀ ≡ 512) × (i ≤ length na
 abbrev μ-loop : tie.MeasureT-loop
 μ-loop at name out₀ i₀ out i = length name - i
 
--- src/placing.rt:42:5
 loop-holds : tie.Need-loop-holds Inv-loop μ-loop
 loop-holds c = (search needs, omega arith, paste-zero (c .args .bytes) (c .args .at) (c .args .name .now))
 
--- src/placing.rt:43:23
 shared-slice-read-out : tie.Need-shared-slice-read-out Inv-loop μ-loop
 shared-slice-read-out c = search needs
 
--- src/placing.rt:43:13
 add-out : tie.Need-add-out Inv-loop μ-loop
 add-out c = omega (arith, c .before .before .before .pre, c .before .loop-test .taken)
 
--- src/placing.rt:43:9
 array-write-out : tie.Need-array-write-out Inv-loop μ-loop
 array-write-out c = omega (arith, c .before .before .before .pre, c .before .loop-test .taken)
 
--- src/placing.rt:44:9
 add-i : tie.Need-add-i Inv-loop μ-loop
 add-i c = omega arith
 
--- src/placing.rt:42:5
 loop-less : tie.Need-loop-less Inv-loop μ-loop
 loop-less c = omega arith
 
--- src/placing.rt:42:5
 loop-again : tie.Need-loop-again Inv-loop μ-loop
 loop-again c =
     let l = c .before .before .loop in
@@ -57,7 +50,6 @@ loop-again c =
           ∙ ap (paste old at name) (sym (add-one (l .i))),
     )
 
--- src/placing.rt:36:1
 returns : tie.Need-returns Inv-loop μ-loop
 unfolding written
 returns c =
