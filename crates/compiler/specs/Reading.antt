@@ -44,9 +44,11 @@ unfit TextEnd = 4
 unfit Bad = 2
 unfit Long = 3
 
+-- a refusal, behind what was built so far
 abbrev pub halted : ℕ → ℕ → Table → Reading
 halted n left t = record { number = n; left = left; part = record { empty = false; first = 0; last = 0; table = t } }
 
+-- what r gives, with another part
 abbrev pub withPart : Reading → Part → Reading
 withPart r p = record { number = r .number; left = r .left; part = p }
 
@@ -75,6 +77,7 @@ kind TextEnd = 8
 kind Bad = 9
 kind Long = 10
 
+-- the tokens that have to stand somewhere: `)`, `path`, `end`, and the end of the text
 abbrev pub isClose : Token → Bool
 isClose t = eqb (kind t) 4
 
@@ -202,6 +205,7 @@ pub record Part-read (s : List ℕ) (r : Reading) (ends : Token → Bool) (ns : 
 abbrev pub Either-way : Reading → Type 0 → Type 0 → Type 0
 Either-way r goes stops = ((r .number ≡ 0) × goes) ⊎ ((r .number ≡ 0 → ⊥) × stops)
 
+-- what stands to the left: a sum, and behind it a sequence
 abbrev pub onSum : Option Expr → Option Expr → Left
 onSum s r = record { sum = s; run = r }
 
