@@ -4,7 +4,6 @@ mod Measures
 mod Expression
 mod Sequence
 mod Factor
-use borrow.Fn.PlainCycle.{Measures}
 use Rattle.compiler.proofs.readers.expression.Reads as expression
 use Rattle.compiler.proofs.readers.+expression+factor+sequence.Lts-expression as expression-lts
 use Rattle.compiler.proofs.readers.factor.Reads as factor
