@@ -32,7 +32,7 @@ fn counts_fit(positions: usize, names: usize) -> bool
 }
 
 // The set is not empty and names only the first n positions.
-fn fits(s: u64, n: usize) -> bool
+pub fn fits(s: u64, n: usize) -> bool
     ensures { λ r. ⌜ r ≡ fitTest s n ⌝ }
 {
     if s == 0 {

@@ -1,0 +1,130 @@
+// The core steps, by value: what an ask, a finish and a withdrawal do that nothing refuses. They test nothing: of a sound record and list
+// they leave a sound one. Callers from outside use the calls, which test.
+ghost use mathlib.Core.Path.{_≡_};
+ghost use Prim.Native.Nat.{_-_};
+ghost use Rattle.steps.specs.Values.{oneMore, askCore, handCore, finishCore, withdrawCore};
+use crate::entries::Entry;
+use crate::outcomes::Asked;
+use crate::outcomes::Handed;
+use crate::outcomes::Withdrawn;
+use crate::records::Session;
+use crate::records::counted;
+use crate::records::granted;
+use crate::records::is_free;
+use crate::records::is_met;
+use crate::records::set_free;
+use crate::replies::AskReply;
+use crate::replies::FinishReply;
+use crate::replies::Finished;
+use crate::replies::Grant;
+use crate::replies::Next;
+use crate::replies::WithdrawReply;
+use crate::searches::Found;
+use crate::searches::Waiter;
+
+// One more, of at most 64.
+fn one_more(n: usize) -> usize
+    ensures { λ r. ⌜ r ≡ oneMore n ⌝ }
+{
+    if n < 64 {
+        return n + 1;
+    }
+    n
+}
+
+// One less, of at least 0.
+fn one_less(n: usize) -> usize
+    ensures { λ r. ⌜ r ≡ n - 1 ⌝ }
+{
+    if n == 0 {
+        return 0;
+    }
+    n - 1
+}
+
+// An ask: granted if the record is free and the operation meets the set, else delayed. Where nothing is put, the place is behind the
+// list, which has `entries` entries.
+pub fn ask_step(session: Session, entries: usize, e: Entry) -> Asked
+    ensures { λ r. ⌜ r ≡ askCore session entries e ⌝ }
+{
+    let state = session.state;
+    let operation = e.operation;
+    let waiting = session.waiting;
+    if is_free(state) && is_met(session, operation) {
+        let after = granted(session, e, waiting);
+        return Asked {
+            reply: AskReply::Granted,
+            session: after,
+            place: entries,
+            entry: e,
+        };
+    }
+    let after = counted(session, one_more(waiting));
+    Asked {
+        reply: AskReply::Delayed(waiting),
+        session: after,
+        place: waiting,
+        entry: e,
+    }
+}
+
+// The line is handed on, free after a finish, to the entry that was found.
+fn hand_to(session: Session, w: Waiter) -> Handed
+    ensures { λ r. ⌜ r ≡ handCore session (Found.At w) ⌝ }
+{
+    let entry = w.entry;
+    let waiting = session.waiting;
+    let after = granted(session, entry, one_less(waiting));
+    let terminal = entry.terminal;
+    let operation = entry.operation;
+    let next = Next::Granted(Grant {
+        terminal: terminal,
+        operation: operation,
+    });
+    let reply = FinishReply::Finished(Finished {
+        examined: one_more(w.place),
+        next: next,
+    });
+    Handed {
+        reply: reply,
+        session: after,
+        used: waiting,
+        place: w.place,
+    }
+}
+
+// A finish: the set moves on, and the line goes to the entry that was found first, if any.
+pub fn finish_step(session: Session, first: Found) -> Handed
+    ensures { λ r. ⌜ r ≡ finishCore session first ⌝ }
+{
+    let freed = set_free(session);
+    match first {
+        Found::At(w) => hand_to(freed, w),
+        Found::Nobody => {
+            let reply = FinishReply::Finished(Finished {
+                examined: freed.waiting,
+                next: Next::Nobody,
+            });
+            Handed {
+                reply: reply,
+                session: freed,
+                used: 0,
+                place: 0,
+            }
+        }
+    }
+}
+
+// A withdrawal: the entry at the place is taken out.
+pub fn withdraw_step(session: Session, place: usize) -> Withdrawn
+    ensures { λ r. ⌜ r ≡ withdrawCore session place ⌝ }
+{
+    let waiting = session.waiting;
+    let after = counted(session, one_less(waiting));
+    Withdrawn {
+        reply: WithdrawReply::Withdrawn(place),
+        session: after,
+        used: waiting,
+        place: place,
+    }
+}
