@@ -3,7 +3,6 @@
 //
 //   turns run < SCRIPT          prints what the script's lines give
 //   turns generate SEED LINES   prints a script: paths, calls in season and out of it, damaged records and lists
-use std::collections::HashMap;
 use std::io::{Read, Write};
 
 const BLANK: [u8; 4] = [32, 9, 10, 13];
@@ -433,4 +432,243 @@ impl Session {
             }
         }
     }
+}
+
+// ---- scripts
+
+struct Line {
+    session: Session,
+    list: [Entry; 64],
+}
+
+// The number that starts at `at`, and where the space or the end behind it is; digits that would make it too large are passed over.
+fn number(line: &[u8], at: usize) -> (u64, usize) {
+    let mut n: u64 = 0;
+    let mut k = at;
+    while k < line.len() && line[k].is_ascii_digit() {
+        if n < 1844674407370955161 {
+            n = n * 10 + (line[k] - b'0') as u64;
+        }
+        k += 1;
+    }
+    (n, k)
+}
+
+fn rest(line: &[u8], from: usize) -> &[u8] {
+    &line[from.min(line.len())..]
+}
+
+impl Line {
+    // One cell gets a value, which need not be one that it may have.
+    fn damage(&mut self, kind: u64, at: usize, value: u64) {
+        let t = &mut self.session.table;
+        match kind {
+            0 => self.session.set = value,
+            1 => self.session.running = None,
+            2 => self.session.running = Some(value as u16),
+            3 => self.session.waiting = value as usize,
+            4 if at < 64 => self.list[at].terminal = value as u16,
+            5 if at < 64 => self.list[at].operation = value as u8,
+            6 => t.start = value,
+            7 if at < 64 => t.rows[at] = value,
+            8 if at < 64 => t.operations[at] = value as u8,
+            9 if at < 32 => t.lengths[at] = value as u8,
+            10 if at < 512 => t.bytes[at] = value as u8,
+            11 => t.mark = value as u8,
+            12 => t.positions = value as usize,
+            13 => t.names = value as usize,
+            _ => {}
+        }
+    }
+
+    fn show(&self, out: &mut String) {
+        let runs = self.session.running.map_or("free".to_string(), |t| t.to_string());
+        out.push_str(&format!("{} {} {}", self.session.set, runs, self.session.waiting));
+        let used = self.list.iter().rposition(|e| e.terminal != 0 || e.operation != 0).map_or(0, |i| i + 1);
+        for e in &self.list[..used] {
+            out.push_str(&format!(" {}.{}", e.terminal, e.operation));
+        }
+        out.push('\n');
+    }
+
+    fn turn(&mut self, line: &[u8], out: &mut String) {
+        let (a, behind) = number(line, 2);
+        let reply = match line.first() {
+            Some(b'p') => match compile(rest(line, 2)) {
+                Ok(table) => self.session.open(&mut self.list, table),
+                Err((n, place)) => {
+                    out.push_str(&format!("refused {n} at {place}\n"));
+                    return;
+                }
+            },
+            Some(b'o') => {
+                let table = self.session.table;
+                self.session.open(&mut self.list, table)
+            }
+            Some(b'a') => self.session.ask(&mut self.list, a as u16, rest(line, behind + 1)),
+            Some(b'f') => self.session.finish(&mut self.list, a as u16),
+            Some(b'w') => self.session.withdraw(&mut self.list, a as u16),
+            Some(b's') => return self.show(out),
+            Some(b'd') => {
+                let (at, behind) = number(line, behind + 1);
+                let (value, _) = number(line, behind + 1);
+                return self.damage(a, at.min(1000) as usize, value);
+            }
+            _ => return,
+        };
+        out.push_str(&match reply {
+            Reply::Opened => "opened\n".to_string(),
+            Reply::Granted => "granted\n".to_string(),
+            Reply::Delayed(n) => format!("delayed {n}\n"),
+            Reply::Finished(n, None) => format!("finished {n}\n"),
+            Reply::Finished(n, Some((t, o))) => format!("finished {n} granted {t} {o}\n"),
+            Reply::Withdrawn(p) => format!("withdrawn {p}\n"),
+            Reply::Refused(n) => format!("refused {n}\n"),
+        });
+    }
+}
+
+// The script is run as often as its first line says, `t N`, from nothing each time; what the last run gives is returned.
+fn run(script: &[u8]) -> String {
+    let mut lines: Vec<&[u8]> = script.split(|b| *b == b'\n').collect();
+    lines.pop();
+    let times = match lines.first() {
+        Some(l) if l.first() == Some(&b't') => number(l, 2).0,
+        _ => 1,
+    };
+    let mut out = String::new();
+    for _ in 0..times {
+        out.clear();
+        let nothing = Session { table: ZEROS, set: 0, running: None, waiting: 0 };
+        let mut line = Line { session: nothing, list: [NOBODY; 64] };
+        for l in &lines {
+            line.turn(l, &mut out);
+        }
+    }
+    out
+}
+
+// ---- generating
+
+struct Dice(u64);
+
+impl Dice {
+    fn roll(&mut self, n: u64) -> u64 {
+        self.0 ^= self.0 << 13;
+        self.0 ^= self.0 >> 7;
+        self.0 ^= self.0 << 17;
+        (self.0 >> 11) % n
+    }
+}
+
+fn part(d: &mut Dice, depth: u64, names: u64, left: &mut u64, out: &mut String) {
+    let items = 1 + d.roll(3);
+    for i in 0..items {
+        if i > 0 {
+            out.push_str([" ", " + ", ";"][d.roll(3) as usize]);
+        }
+        if depth > 0 && d.roll(3) == 0 {
+            out.push('(');
+            part(d, depth - 1, names, left, out);
+            out.push(')');
+        } else if *left > 0 || i == 0 {
+            *left = left.saturating_sub(1);
+            out.push_str(&format!("n{}", d.roll(names)));
+        }
+        if d.roll(4) == 0 {
+            out.push('*');
+        }
+    }
+}
+
+fn path(d: &mut Dice) -> String {
+    const PATHS: [&str; 8] = [
+        "path (inject exclude)* count end",
+        "path open (inject + read)* close end",
+        "path a b + a c end",
+        "path a b (a + b*) c end",
+        "path a b* c end",
+        "path write (write (write read)* read)* read end",
+        "path a (b + b (a b)*) end",
+        "path a + end",
+    ];
+    if d.roll(2) == 0 {
+        return PATHS[d.roll(8) as usize].to_string();
+    }
+    let mut out = String::from("path ");
+    let (depth, names) = (d.roll(4), 1 + d.roll(6));
+    let mut left = 1 + d.roll(20);
+    part(d, depth, names, &mut left, &mut out);
+    out.push_str(" end");
+    out
+}
+
+fn generate(seed: u64, lines: u64) -> String {
+    let mut d = Dice(seed.wrapping_mul(0x9E3779B97F4A7C15) | 1);
+    let mut out = String::new();
+    let mut script = Line { session: Session { table: ZEROS, set: 0, running: None, waiting: 0 }, list: [NOBODY; 64] };
+    let few = [3, 6, 64, 70][d.roll(4) as usize];
+    for i in 0..lines {
+        let s = &script.session;
+        let known: Vec<String> =
+            (0..s.table.names.min(32)).map(|o| String::from_utf8_lossy(s.table.name(o)).to_string()).collect();
+        let terminal = match s.running {
+            Some(t) if d.roll(3) > 0 => t as u64,
+            _ => d.roll(few),
+        };
+        let line = match d.roll(40) {
+            _ if i == 0 => format!("p {}", path(&mut d)),
+            0 => format!("p {}", path(&mut d)),
+            1 if d.roll(3) == 0 => "o".to_string(),
+            2 => {
+                let value = match d.roll(4) {
+                    0 => d.roll(4),
+                    1 => d.roll(70),
+                    2 => d.roll(u64::MAX),
+                    _ => 1 << d.roll(64),
+                };
+                format!("d {} {} {}", d.roll(14), d.roll(66), value)
+            }
+            3..=20 => {
+                let name = match d.roll(20) {
+                    0 => "nobody".to_string(),
+                    1 => String::new(),
+                    _ if known.is_empty() => "a".to_string(),
+                    _ => known[d.roll(known.len() as u64) as usize].clone(),
+                };
+                format!("a {} {}", d.roll(few), name)
+            }
+            21..=32 => format!("f {terminal}"),
+            33..=36 => format!("w {}", d.roll(few)),
+            _ => "s".to_string(),
+        };
+        script.turn(line.as_bytes(), &mut String::new());
+        // a record that calls refuse as unsound is soon opened anew
+        if !script.session.sound(&script.list) && d.roll(4) == 0 {
+            let fresh = format!("p {}", path(&mut d));
+            script.turn(fresh.as_bytes(), &mut String::new());
+            out.push_str(&format!("{line}\n{fresh}\n"));
+        } else {
+            out.push_str(&format!("{line}\n"));
+        }
+    }
+    out.push_str("s\n");
+    out
+}
+
+fn main() {
+    let words: Vec<String> = std::env::args().collect();
+    let text = match words.get(1).map(String::as_str) {
+        Some("run") => {
+            let mut script = Vec::new();
+            std::io::stdin().read_to_end(&mut script).expect("a script on standard input");
+            run(&script)
+        }
+        Some("generate") => {
+            let n = |i: usize| words.get(i).and_then(|w| w.parse().ok()).expect("a number");
+            generate(n(2), n(3))
+        }
+        _ => panic!("run, or generate SEED LINES"),
+    };
+    std::io::stdout().write_all(text.as_bytes()).expect("standard output");
 }

@@ -3,6 +3,7 @@ pub mod Answers
 pub mod Blanking
 pub mod Calling
 pub mod Deciding
+pub mod Determined
 pub mod FinishWithdraw
 pub mod Lent
 pub mod ListCalls

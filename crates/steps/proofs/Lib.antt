@@ -28,3 +28,4 @@ pub mod StepsKeep
 pub mod TableStable
 pub mod CallsKeep
 pub mod CallsDetermined
+pub mod Determined

@@ -2,7 +2,7 @@
 -- under the same name in small letters.
 use mathlib.Core.Path.{_≡_}
 use mathlib.Core.List.{List}
-use Prim.Native.Nat.{ℕ, _≤_, _<_}
+use Prim.Native.Nat.{ℕ, suc, _≤_, _<_}
 use lib.ListN.{length}
 use Rattle.meaning.specs.Names.{Name}
 use Rattle.table.specs.Soundness.{Sound as TableSound}
@@ -18,9 +18,9 @@ use Rattle.steps.specs.declared.replies.FinishReply.{FinishReply}
 use Rattle.steps.specs.declared.replies.WithdrawReply.{WithdrawReply}
 use Rattle.steps.specs.Answers.{openAnswer, askAnswer, finishAnswer, withdrawAnswer}
 use Rattle.steps.specs.Answers.Answer.{opened}
-use Rattle.steps.specs.Soundness.{Sound}
+use Rattle.steps.specs.Soundness.{Sound, entryIn}
 use Rattle.steps.specs.Refusals.{Runs, Waits}
-use Rattle.steps.specs.Lists.{inUse}
+use Rattle.steps.specs.Lists.{blankEntry, inUse, takenOut}
 use Rattle.steps.specs.Searching.{looked, looking, handing}
 use Rattle.steps.specs.Values.{askCore, finishCore, withdrawCore, askOutcome, finishOutcome, withdrawOutcome}
 use Rattle.steps.specs.Steps.{Outcome, openStep, askStep, finishStep, withdrawStep}
@@ -86,6 +86,62 @@ Finish-keeps =
 abbrev pub Withdraw-keeps : Type 0
 Withdraw-keeps =
     (s s′ : Session) (l l′ : List Entry) (t : Terminal) (r : WithdrawReply) → Withdraws s l t r s′ l′ → Sound s l → Sound s′ l′
+
+-- "When an entry is taken out, later ones move up by one and the last used place becomes blank", place by place: of n entries in use, the
+-- one at p; the length is the list's own
+pub record TakenOut (n p : ℕ) (l l′ : List Entry) : Type 0 where
+  pub ahead : (i : ℕ) → i < p → entryIn l′ i ≡ entryIn l i
+  pub moved-up : (i : ℕ) → p ≤ i → suc i < n → entryIn l′ i ≡ entryIn l (suc i)
+  pub last-blank : (i : ℕ) → suc i ≡ n → entryIn l′ i ≡ blankEntry
+  pub behind : (i : ℕ) → n ≤ i → entryIn l′ i ≡ entryIn l i
+  pub same-length : length l′ ≡ length l
+
+abbrev pub Taken-out-says : Type 0
+Taken-out-says = (n p : ℕ) (l : List Entry) → p < n → n ≤ length l → TakenOut n p l (takenOut n p l)
+
+-- "Entries from 64 on are never touched", by any call on any record and list
+abbrev pub Untouched : List Entry → List Entry → Type 0
+Untouched l l′ = (length l′ ≡ length l) × ((i : ℕ) → 64 ≤ i → entryIn l′ i ≡ entryIn l i)
+
+abbrev pub Open-leaves-the-rest : Type 0
+Open-leaves-the-rest =
+    (s s′ : Session) (l l′ : List Entry) (t : Table) (r : OpenReply) → Opens s l t r s′ l′ → Untouched l l′
+
+abbrev pub Ask-leaves-the-rest : Type 0
+Ask-leaves-the-rest =
+    (s s′ : Session) (l l′ : List Entry) (t : Terminal) (n : Name) (r : AskReply) → Asks s l t n r s′ l′ → Untouched l l′
+
+abbrev pub Finish-leaves-the-rest : Type 0
+Finish-leaves-the-rest =
+    (s s′ : Session) (l l′ : List Entry) (t : Terminal) (r : FinishReply) → Finishes s l t r s′ l′ → Untouched l l′
+
+abbrev pub Withdraw-leaves-the-rest : Type 0
+Withdraw-leaves-the-rest =
+    (s s′ : Session) (l l′ : List Entry) (t : Terminal) (r : WithdrawReply) → Withdraws s l t r s′ l′ → Untouched l l′
+
+-- "blank (terminal 0, operation 0)": from an opening on, the places behind the entries in use are
+abbrev pub BlankBehind : Session → List Entry → Type 0
+BlankBehind s l = (i : ℕ) → s .waiting ≤ i → i < 64 → entryIn l i ≡ blankEntry
+
+abbrev pub Opened-blank : Type 0
+Opened-blank =
+    (s s′ : Session) (l l′ : List Entry) (t : Table) (r : OpenReply) → Opens s l t r s′ l′ → openAnswer r ≡ opened
+    → BlankBehind s′ l′
+
+abbrev pub Ask-keeps-blank : Type 0
+Ask-keeps-blank =
+    (s s′ : Session) (l l′ : List Entry) (t : Terminal) (n : Name) (r : AskReply) → Asks s l t n r s′ l′ → BlankBehind s l
+    → BlankBehind s′ l′
+
+abbrev pub Finish-keeps-blank : Type 0
+Finish-keeps-blank =
+    (s s′ : Session) (l l′ : List Entry) (t : Terminal) (r : FinishReply) → Finishes s l t r s′ l′ → BlankBehind s l
+    → BlankBehind s′ l′
+
+abbrev pub Withdraw-keeps-blank : Type 0
+Withdraw-keeps-blank =
+    (s s′ : Session) (l l′ : List Entry) (t : Terminal) (r : WithdrawReply) → Withdraws s l t r s′ l′ → BlankBehind s l
+    → BlankBehind s′ l′
 
 -- the paper's number and values tell the cases of a reply apart
 abbrev pub Open-answer-injective : Type 0

@@ -15,12 +15,15 @@ use Rattle.steps.specs.declared.records.Session.{Session}
 use Rattle.steps.specs.declared.records.State.the-variants.{Free, Running}
 use Rattle.steps.specs.Lists.{blankEntry}
 
--- the entry at place i, by its numbers
+-- the entry at place i, and its numbers
+abbrev pub entryIn : List Entry → ℕ → Entry
+entryIn l i = getD l i blankEntry
+
 abbrev pub terminalIn : List Entry → ℕ → ℕ
-terminalIn l i = getD l i blankEntry .terminal .0
+terminalIn l i = entryIn l i .terminal .0
 
 abbrev pub operationIn : List Entry → ℕ → ℕ
-operationIn l i = getD l i blankEntry .operation .0
+operationIn l i = entryIn l i .operation .0
 
 -- an operation "meets the set": it shares a position with its permission set
 abbrev pub meetsSet : Session → ℕ → Bool

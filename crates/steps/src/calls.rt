@@ -13,7 +13,6 @@ use crate::outcomes::Opened;
 use crate::outcomes::Withdrawn;
 use crate::records::Session;
 use crate::records::State;
-use crate::records::opened_over;
 use crate::replies::AskReply;
 use crate::replies::FinishReply;
 use crate::replies::OpenReply;
@@ -23,6 +22,7 @@ use crate::searches::Search;
 use crate::soundness::record_is_sound;
 use crate::steps::ask_step;
 use crate::steps::finish_step;
+use crate::steps::open_step;
 use crate::steps::withdraw_step;
 use table::cells::Table;
 use table::names::Found as Named;
@@ -88,7 +88,7 @@ pub fn opened(session: Session, entries: usize, table: Table) -> Opened
     if !sound {
         return not_opened(session, 9);
     }
-    let after = opened_over(table);
+    let after = open_step(table);
     Opened {
         reply: OpenReply::Opened,
         session: after,

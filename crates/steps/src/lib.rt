@@ -1,5 +1,4 @@
 // Document 01, "Sessions", by value: the record, the entries, their soundness, and what each call makes of them.
-pub mod bits;
 pub mod calls;
 pub mod entries;
 pub mod numbers;

@@ -1,13 +1,15 @@
 // Looking through the waiting list once, from the front: each entry is examined by itself, so that the lent list needs no copy.
 ghost use mathlib.Core.Path.{_≡_};
-ghost use Rattle.steps.specs.Searching.{orHere, entryFits, examined, barredIn, takenIn, searching, looking, handing};
-use crate::bits::has;
-use crate::bits::operations_in;
-use crate::bits::with;
+ghost use lib.Bits.{bitOr};
+ghost use lib.ListN.{take};
+ghost use Rattle.meaning.specs.Sets.{mem};
+ghost use Rattle.steps.specs.Searching.{bitOf, operationsIn, orHere, entryFits, examined, barredIn, takenIn, searching, looking, handing};
 use crate::entries::Entry;
 use crate::numbers::Terminal;
+use crate::numbers::least;
 use crate::records::Session;
 use crate::records::State;
+use table::numbers::Operation;
 use table::sets::union_of;
 
 // An entry, and the place where it stands, from 0.
@@ -39,6 +41,51 @@ pub struct Search {
     pub own: Found,
     // the first entry of an open operation
     pub first: Found,
+}
+
+// n is in the set.
+fn has(set: u64, n: usize) -> bool
+    ensures { λ r. ⌜ r ≡ mem n set ⌝ }
+{
+    if 63 < n {
+        return false;
+    }
+    (set >> n) % 2 == 1
+}
+
+// The set, with n; n from 64 on is in no set.
+fn with(set: u64, n: usize) -> u64
+    ensures { λ r. ⌜ r ≡ bitOr set (bitOf n) ⌝ }
+{
+    if 63 < n {
+        return set;
+    }
+    set | (1u64 << n)
+}
+
+// An operation's number, as wide as a place.
+fn number(o: Operation) -> usize
+    ensures { λ r. ⌜ r ≡ o .0 ⌝ }
+{
+    o.0 as usize
+}
+
+// The operations of the positions in a set, of the first `positions` there are.
+pub fn operations_in(positions: usize, operations: [Operation; 64], set: u64) -> u64
+    ensures { λ r. ⌜ r ≡ operationsIn (take positions operations) set ⌝ }
+{
+    let end = least(positions, 64);
+    let mut out: u64 = 0;
+    let mut rest = set;
+    let mut p: usize = 0;
+    while p < end {
+        if rest % 2 == 1 {
+            out = with(out, number(operations[p]));
+        }
+        rest = rest / 2;
+        p += 1;
+    }
+    out
 }
 
 // What was found before stays.

@@ -4,9 +4,9 @@ ghost use mathlib.Core.Bool.{true};
 ghost use mathlib.Core.Logic.{_↔_};
 ghost use Rattle.steps.specs.Searching.{soleIn, stateFits};
 ghost use Rattle.steps.specs.Soundness.{RecordSound};
-use crate::bits::operations_in;
 use crate::records::Session;
 use crate::records::State;
+use crate::searches::operations_in;
 use table::soundness::fits;
 use table::soundness::is_sound;
 

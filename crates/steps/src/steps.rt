@@ -2,17 +2,16 @@
 // they leave a sound one. Callers from outside use the calls, which test.
 ghost use mathlib.Core.Path.{_≡_};
 ghost use Prim.Native.Nat.{_-_};
-ghost use Rattle.steps.specs.Values.{oneMore, askCore, handCore, finishCore, withdrawCore};
+ghost use Rattle.table.specs.Following.{permissionSet};
+ghost use Rattle.steps.specs.Soundness.{meetsSet};
+ghost use Rattle.steps.specs.Steps.{isFree, opening, granting, counting, freed};
+ghost use Rattle.steps.specs.Values.{standing, oneMore, askCore, handCore, finishCore, withdrawCore};
 use crate::entries::Entry;
 use crate::outcomes::Asked;
 use crate::outcomes::Handed;
 use crate::outcomes::Withdrawn;
 use crate::records::Session;
-use crate::records::counted;
-use crate::records::granted;
-use crate::records::is_free;
-use crate::records::is_met;
-use crate::records::set_free;
+use crate::records::State;
 use crate::replies::AskReply;
 use crate::replies::FinishReply;
 use crate::replies::Finished;
@@ -21,6 +20,75 @@ use crate::replies::Next;
 use crate::replies::WithdrawReply;
 use crate::searches::Found;
 use crate::searches::Waiter;
+use table::cells::Table;
+use table::numbers::Operation;
+use table::sets::meets;
+use table::sets::permission;
+use table::sets::union_of;
+
+// A record over the same table.
+fn with_standing(session: Session, set: u64, state: State, waiting: usize) -> Session
+    ensures { λ r. ⌜ r ≡ standing session set state waiting ⌝ }
+{
+    let table = session.table;
+    Session {
+        table: table,
+        set: set,
+        state: state,
+        waiting: waiting,
+    }
+}
+
+// The permission set of an operation.
+fn permission_of(session: Session, o: Operation) -> u64
+    ensures { λ r. ⌜ r ≡ permissionSet (session .table) (o .0) ⌝ }
+{
+    let operations = session.table.operations;
+    permission(session.table.positions, operations, o)
+}
+
+// The operation meets the set.
+fn is_met(session: Session, o: Operation) -> bool
+    ensures { λ r. ⌜ r ≡ meetsSet session (o .0) ⌝ }
+{
+    meets(session.set, permission_of(session, o))
+}
+
+fn is_free(state: State) -> bool
+    ensures { λ r. ⌜ r ≡ isFree state ⌝ }
+{
+    match state {
+        State::Free => true,
+        State::Running(_) => false,
+    }
+}
+
+// The entry is granted: the set becomes what both share, and its terminal runs.
+fn granted(session: Session, e: Entry, waiting: usize) -> Session
+    ensures { λ r. ⌜ r ≡ granting session e waiting ⌝ }
+{
+    let operation = e.operation;
+    let terminal = e.terminal;
+    let set = session.set & permission_of(session, operation);
+    with_standing(session, set, State::Running(terminal), waiting)
+}
+
+// The number of entries in use changes, and nothing else.
+fn counted(session: Session, waiting: usize) -> Session
+    ensures { λ r. ⌜ r ≡ counting session waiting ⌝ }
+{
+    let state = session.state;
+    with_standing(session, session.set, state, waiting)
+}
+
+// What runs is finished: the set becomes the union of the rows of its positions.
+fn set_free(session: Session) -> Session
+    ensures { λ r. ⌜ r ≡ freed session ⌝ }
+{
+    let rows = session.table.rows;
+    let set = union_of(&rows, session.set);
+    with_standing(session, set, State::Free, session.waiting)
+}
 
 // One more, of at most 64.
 fn one_more(n: usize) -> usize
@@ -40,6 +108,18 @@ fn one_less(n: usize) -> usize
         return 0;
     }
     n - 1
+}
+
+// An opening over a table: free, the start set, and nobody waits.
+pub fn open_step(table: Table) -> Session
+    ensures { λ r. ⌜ r ≡ opening table ⌝ }
+{
+    Session {
+        table: table,
+        set: table.start,
+        state: State::Free,
+        waiting: 0,
+    }
 }
 
 // An ask: granted if the record is free and the operation meets the set, else delayed. Where nothing is put, the place is behind the

@@ -19,6 +19,7 @@ use Rattle.table.specs.Following.{positionsWith, foundIn}
 use Rattle.table.specs.Linking.{single, linked}
 use Rattle.table.specs.Marks.{markOf}
 use Rattle.table.specs.Soundness.{Sound}
+use Rattle.table.specs.Tests.{fitTest}
 
 pub table-of-zeros-determined : (r r′ : Table) → r ≡ zeros → r′ ≡ zeros → r ≡ r′
 table-of-zeros-determined r r′ = both-equal
@@ -51,3 +52,6 @@ mark-of-determined t r r′ = both-equal
 
 pub is-sound-determined : (t : Table) (r r′ : Bool) → (r ≡ true) ↔ Sound t → (r′ ≡ true) ↔ Sound t → r ≡ r′
 is-sound-determined t r r′ = both-decide r r′
+
+pub fits-determined : (s n : ℕ) (r r′ : Bool) → r ≡ fitTest s n → r′ ≡ fitTest s n → r ≡ r′
+fits-determined s n r r′ = both-equal

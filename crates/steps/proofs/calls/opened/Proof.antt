@@ -30,8 +30,8 @@ returns-2 c =
       is = rw (le-ltb _ 64 (c .before .before .if1 .left), not-true (b .result) (c .before .if2 .taken)) (c .not-opened2 .ensures);
     }
 
-opened-over-requires : tie.Need-opened-over-requires
-opened-over-requires c κs = search needs
+open-step-requires : tie.Need-open-step-requires
+open-step-requires c κs = search needs
 
 returns-3 : tie.Need-returns-3
 unfolding openValue
@@ -40,7 +40,7 @@ returns-3 c =
     record {
       sound = b .result;
       says = b .ensures;
-      is = rw (le-ltb _ 64 (c .before .before .if1 .left), not-false (b .result) (c .before .if2 .left), c .opened-over .ensures);
+      is = rw (le-ltb _ 64 (c .before .before .if1 .left), not-false (b .result) (c .before .if2 .left), c .open-step .ensures);
     }
 
 pub opened-spec : {M : Type 1} → statement M
@@ -52,5 +52,5 @@ opened-spec =
     returns
     not-opened-requires-2
     returns-2
-    opened-over-requires
+    open-step-requires
     returns-3)

@@ -1,11 +1,11 @@
--- `steps::bits::has` meets its contract: a shift shows the bit, and a number below 2 ^ 64 has none from 64 on.
+-- `steps::searches::has` meets its contract: a shift shows the bit, and a number below 2 ^ 64 has none from 64 on.
 use mathlib.Core.Path.{sym}
 use native.Mathlib.Omega.{arith}
 use borrow.Author.Needs.{needs}
 use Rattle.meaning.proofs.SetLaws.{mem-beyond}
 use Rattle.steps.proofs.SmallSets.{mem-shifted}
-use Rattle.steps.proofs.bits.has.Statement.{statement}
-use Rattle.steps.proofs.bits.has.Tie as tie
+use Rattle.steps.proofs.searches.has.Statement.{statement}
+use Rattle.steps.proofs.searches.has.Tie as tie
 
 returns : tie.Need-returns
 returns c = sym (mem-beyond (c .before .args .n) 64 (c .before .args .set) (search needs) (omega arith))

@@ -1,7 +1,7 @@
--- `steps::records::granted` meets its contract: the calls say the parts.
+-- `steps::steps::granted` meets its contract: the calls say the parts.
 use borrow.Author.Needs.{needs}
-use Rattle.steps.proofs.records.granted.Statement.{statement}
-use Rattle.steps.proofs.records.granted.Tie as tie
+use Rattle.steps.proofs.steps.granted.Statement.{statement}
+use Rattle.steps.proofs.steps.granted.Tie as tie
 
 permission-of-requires : tie.Need-permission-of-requires
 permission-of-requires c κs = search needs

@@ -1,10 +1,10 @@
--- `steps::bits::with` meets its contract: a shifted 1 is the set of one number, if it fits.
+-- `steps::searches::with` meets its contract: a shifted 1 is the set of one number, if it fits.
 use mathlib.Core.Path.{sym, ap}
 use lib.Bits.{bitOr, or-zero-r}
 use borrow.Author.Needs.{needs}
 use Rattle.steps.proofs.SmallSets.{bit-shifted, bit-beyond}
-use Rattle.steps.proofs.bits.with.Statement.{statement}
-use Rattle.steps.proofs.bits.with.Tie as tie
+use Rattle.steps.proofs.searches.with.Statement.{statement}
+use Rattle.steps.proofs.searches.with.Tie as tie
 
 returns : tie.Need-returns
 returns c = rw (bit-beyond _ (c .if1 .taken)) (sym (or-zero-r _))

@@ -1,8 +1,8 @@
--- `steps::records::permission_of` meets its contract: it is the table's.
+-- `steps::steps::permission_of` meets its contract: it is the table's.
 use borrow.Author.Needs.{needs}
 use Rattle.table.specs.Following.{permissionSet}
-use Rattle.steps.proofs.records.permission_of.Statement.{statement}
-use Rattle.steps.proofs.records.permission_of.Tie as tie
+use Rattle.steps.proofs.steps.permission_of.Statement.{statement}
+use Rattle.steps.proofs.steps.permission_of.Tie as tie
 
 permission-requires : tie.Need-permission-requires
 permission-requires c κs = search needs

@@ -1,7 +1,7 @@
--- `steps::records::set_free` meets its contract: the calls say the parts.
+-- `steps::steps::set_free` meets its contract: the calls say the parts.
 use borrow.Author.Needs.{needs}
-use Rattle.steps.proofs.records.set_free.Statement.{statement}
-use Rattle.steps.proofs.records.set_free.Tie as tie
+use Rattle.steps.proofs.steps.set_free.Statement.{statement}
+use Rattle.steps.proofs.steps.set_free.Tie as tie
 
 union-of-requires : tie.Need-union-of-requires
 union-of-requires c κs = search needs

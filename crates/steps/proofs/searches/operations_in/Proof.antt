@@ -1,4 +1,4 @@
--- `steps::bits::operations_in` meets its contract: it unites the bits of the operations of the set's positions, one after the other.
+-- `steps::searches::operations_in` meets its contract: it unites the bits of the operations of the set's positions, one after the other.
 use mathlib.Core.Path.{_≡_, sym, ap, _∙_}
 use mathlib.Core.Logic.{⊎-elim}
 use Prim.Native.Nat.{_-_}
@@ -11,8 +11,8 @@ use Rattle.meaning.specs.Sets.{mem, unionOf}
 use Rattle.table.proofs.Unions.{Uniting, turn-united, all-united}
 use Rattle.steps.specs.Searching.{operationsIn, bitOf}
 use Rattle.steps.proofs.SmallSets.{bitsOf, length-bits, bit-at}
-use Rattle.steps.proofs.bits.operations_in.Statement.{statement}
-use Rattle.steps.proofs.bits.operations_in.Tie as tie
+use Rattle.steps.proofs.searches.operations_in.Statement.{statement}
+use Rattle.steps.proofs.searches.operations_in.Tie as tie
 
 abbrev Inv-loop : tie.InvT-loop
 Inv-loop positions set operations end out₀ rest₀ p₀ out rest p = Uniting (bitsOf positions operations) (unionOf (bitsOf positions operations) set) out rest p

@@ -1,7 +1,7 @@
--- `steps::records::is_met` meets its contract: the calls say the parts.
+-- `steps::steps::is_met` meets its contract: the calls say the parts.
 use borrow.Author.Needs.{needs}
-use Rattle.steps.proofs.records.is_met.Statement.{statement}
-use Rattle.steps.proofs.records.is_met.Tie as tie
+use Rattle.steps.proofs.steps.is_met.Statement.{statement}
+use Rattle.steps.proofs.steps.is_met.Tie as tie
 
 permission-of-requires : tie.Need-permission-of-requires
 permission-of-requires c κs = search needs

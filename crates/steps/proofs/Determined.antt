@@ -1,0 +1,79 @@
+-- What each public function answers is determined: two answers that both meet its contract are one, since the contract is an equation with a
+-- definition, or says exactly when the answer is true, or is an equation that depends on this. The calls: CallsDetermined.antt.
+use mathlib.Core.Path.{_≡_, ap, _∙_}
+use mathlib.Core.Bool.{Bool, true}
+use mathlib.Core.List.{List}
+use mathlib.Core.Logic.{_↔_}
+use Prim.Native.Nat.{ℕ, min}
+use lib.ListN.{take}
+use Rattle.meaning.proofs.SetLaws.{both-decide}
+use Rattle.text.proofs.Determined.{both-equal}
+use Rattle.table.specs.declared.cells.Table.{Table}
+use Rattle.table.specs.declared.numbers.Operation.{Operation}
+use Rattle.steps.specs.declared.numbers.Terminal.{Terminal}
+use Rattle.steps.specs.declared.entries.Entry.{Entry}
+use Rattle.steps.specs.declared.records.Session.{Session}
+use Rattle.steps.specs.declared.searches.Search.{Search}
+use Rattle.steps.specs.declared.searches.Found.{Found}
+use Rattle.steps.specs.declared.outcomes.Opened.{Opened}
+use Rattle.steps.specs.declared.outcomes.Asked.{Asked}
+use Rattle.steps.specs.declared.outcomes.Handed.{Handed}
+use Rattle.steps.specs.declared.outcomes.Withdrawn.{Withdrawn}
+use Rattle.steps.specs.Lists.{blankEntry}
+use Rattle.steps.specs.Searching.{operationsIn, examined, looking, handing}
+use Rattle.steps.specs.Soundness.{RecordSound}
+use Rattle.steps.specs.Steps.{opening}
+use Rattle.steps.specs.Values.{askCore, finishCore, withdrawCore, Decided, OpenedBy, AskedBy, FinishedBy, WithdrawnBy}
+
+pub least-determined : (a b r r′ : ℕ) → r ≡ min a b → r′ ≡ min a b → r ≡ r′
+least-determined a b r r′ = both-equal
+
+pub blank-entry-determined : (r r′ : Entry) → r ≡ blankEntry → r′ ≡ blankEntry → r ≡ r′
+blank-entry-determined r r′ = both-equal
+
+pub operations-in-determined : (positions : ℕ) (operations : List Operation) (set r r′ : ℕ)
+    → r ≡ operationsIn (take positions operations) set → r′ ≡ operationsIn (take positions operations) set → r ≡ r′
+operations-in-determined positions operations set r r′ = both-equal
+
+pub examine-determined : (s : Search) (e : Entry) (place : ℕ) (r r′ : Search) → r ≡ examined s e place → r′ ≡ examined s e place → r ≡ r′
+examine-determined s e place r r′ = both-equal
+
+pub look-for-determined : (s : Session) (t : Terminal) (r r′ : Search) → r ≡ looking s t → r′ ≡ looking s t → r ≡ r′
+look-for-determined s t r r′ = both-equal
+
+pub hand-on-determined : (s : Session) (t : Terminal) (r r′ : Search) → r ≡ handing s t → r′ ≡ handing s t → r ≡ r′
+hand-on-determined s t r r′ = both-equal
+
+pub record-is-sound-determined : (s : Session) (r r′ : Bool) → (r ≡ true) ↔ RecordSound s → (r′ ≡ true) ↔ RecordSound s → r ≡ r′
+record-is-sound-determined s r r′ = both-decide r r′
+
+pub open-step-determined : (t : Table) (r r′ : Session) → r ≡ opening t → r′ ≡ opening t → r ≡ r′
+open-step-determined t r r′ = both-equal
+
+pub ask-step-determined : (s : Session) (n : ℕ) (e : Entry) (r r′ : Asked) → r ≡ askCore s n e → r′ ≡ askCore s n e → r ≡ r′
+ask-step-determined s n e r r′ = both-equal
+
+pub finish-step-determined : (s : Session) (f : Found) (r r′ : Handed) → r ≡ finishCore s f → r′ ≡ finishCore s f → r ≡ r′
+finish-step-determined s f r r′ = both-equal
+
+pub withdraw-step-determined : (s : Session) (p : ℕ) (r r′ : Withdrawn) → r ≡ withdrawCore s p → r′ ≡ withdrawCore s p → r ≡ r′
+withdraw-step-determined s p r r′ = both-equal
+
+-- the calls by value, which depend on whether something is so
+decided-equal : {P : Type 0} {R : Type 0} (value : Bool → R) (r r′ : R) → Decided P value r → Decided P value r′ → r ≡ r′
+decided-equal value r r′ d d′ = both-equal (d .is ∙ ap value (both-decide (d .sound) (d′ .sound) (d .says) (d′ .says))) (d′ .is)
+
+pub opened-determined : (s : Session) (n : ℕ) (t : Table) (r r′ : Opened) → OpenedBy s n t r → OpenedBy s n t r′ → r ≡ r′
+opened-determined s n t r r′ = decided-equal _ r r′
+
+pub asked-determined : (s : Session) (n : ℕ) (f : Search) (t : Terminal) (name : List ℕ) (r r′ : Asked)
+    → AskedBy s n f t name r → AskedBy s n f t name r′ → r ≡ r′
+asked-determined s n f t name r r′ = decided-equal _ r r′
+
+pub finished-determined : (s : Session) (n : ℕ) (f : Search) (t : Terminal) (r r′ : Handed)
+    → FinishedBy s n f t r → FinishedBy s n f t r′ → r ≡ r′
+finished-determined s n f t r r′ = decided-equal _ r r′
+
+pub withdrawn-determined : (s : Session) (n : ℕ) (f : Search) (t : Terminal) (r r′ : Withdrawn)
+    → WithdrawnBy s n f t r → WithdrawnBy s n f t r′ → r ≡ r′
+withdrawn-determined s n f t r r′ = decided-equal _ r r′
