@@ -6,8 +6,8 @@ use native.Mathlib.Numerals.{add-one}
 use native.Mathlib.Omega.{arith}
 use mathlib.Core.List.{List, [], _∷_}
 use lib.ListN.{length, set}
-use Rattle.steps.specs.declared.entries.Entry.{Entry}
-use Rattle.steps.specs.Lists.{blankEntry, blanked}
+use Rattle.standing.specs.declared.entries.Entry.{Entry}
+use Rattle.standing.specs.Lists.{blankEntry, blanked}
 
 pub starts : (l : List Entry) → l ≡ blanked 0 l
 unfolding blanked

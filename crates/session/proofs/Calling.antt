@@ -28,20 +28,20 @@ use denote.Triple.Spec.{tripleOf}
 use denote.Triple.Statement.{Contract, Triple}
 use denote.Triple.Call.{calls-at}
 use denote.Triple.Clauses.{ensured, lasts}
-use Rattle.steps.specs.declared.entries.Entry.{Entry}
-use Rattle.steps.specs.declared.searches.Search.{Search}
-use Rattle.steps.specs.Lists.{blankEntry}
-use Rattle.steps.specs.Searching.{examined}
-use Rattle.steps.proofs.entries.Entry as E
-use Rattle.steps.proofs.entries.Entry.Laws as E′
-use Rattle.steps.proofs.searches.Search as S
-use Rattle.steps.proofs.searches.Search.Laws as S′
-use Rattle.steps.proofs.numbers.least as least
-use Rattle.steps.proofs.numbers.least.Symbol.{name as #steps·numbers·least}
-use Rattle.steps.proofs.entries.blank_entry as blank-entry
-use Rattle.steps.proofs.entries.blank_entry.Symbol.{name as #steps·entries·blank-entry}
-use Rattle.steps.proofs.searches.examine as examine
-use Rattle.steps.proofs.searches.examine.Symbol.{name as #steps·searches·examine}
+use Rattle.standing.specs.declared.entries.Entry.{Entry}
+use Rattle.standing.specs.declared.searches.Search.{Search}
+use Rattle.standing.specs.Lists.{blankEntry}
+use Rattle.standing.specs.Searching.{examined}
+use Rattle.standing.proofs.entries.Entry as E
+use Rattle.standing.proofs.entries.Entry.Laws as E′
+use Rattle.standing.proofs.searches.Search as S
+use Rattle.standing.proofs.searches.Search.Laws as S′
+use Rattle.standing.proofs.numbers.least as least
+use Rattle.standing.proofs.numbers.least.Symbol.{name as #standing·numbers·least}
+use Rattle.standing.proofs.entries.blank_entry as blank-entry
+use Rattle.standing.proofs.entries.blank_entry.Symbol.{name as #standing·entries·blank-entry}
+use Rattle.standing.proofs.searches.examine as examine
+use Rattle.standing.proofs.searches.examine.Symbol.{name as #standing·searches·examine}
 use Rattle.session.proofs.Walks.{R, vals, mach, Q, found-vals, found-mach, number-owned, entry-owned, search-owned}
 
 module _ {M : Type 1} (𝓤 : URA M) (H : Heap 𝓤) (A : Atoms 𝓤) (mem : Memory → SProp 𝓤) (run : Routine → Fun 𝓤) where
@@ -113,10 +113,10 @@ module _ {M : Type 1} {𝓤 : URA M} {H : Heap 𝓤} {A : Atoms 𝓤} {K : Type 
 
   -- `least` gives the lesser
   pub calls-least : K → FmC 𝓤 H (W .laws) C → (mem : Memory → SProp 𝓤) (run : Routine → Fun 𝓤)
-      → Triple 𝓤 (C #steps·numbers·least) (Least 𝓤 H A mem run) → {xs : List Operand} (a b : ℕ) → a < 2 ^ 64 → b < 2 ^ 64
+      → Triple 𝓤 (C #standing·numbers·least) (Least 𝓤 H A mem run) → {xs : List Operand} (a b : ℕ) → a < 2 ^ 64 → b < 2 ^ 64
       → Opds K W (raw (Least 𝓤 H A mem run .pre (to-least 𝓤 H A mem run a b)) ∷ Γ) En xs (vint w64 a ∷ vint w64 b ∷ [])
       → Seq K W Γ (lands C Λ En d (vint w64 (min a b)) rest q)
-      → Seq K W Γ (runs C Λ En (seq (call #steps·numbers·least xs d) rest) q)
+      → Seq K W Γ (runs C Λ En (seq (call #standing·numbers·least xs d) rest) q)
   calls-least t fm mem run known a b ga gb os k =
       nothing t $ use1 W (raw (Least 𝓤 H A mem run .pre (to-least 𝓤 H A mem run a b))) (goes-least 𝓤 H A mem run W a b ga gb) $
       calls-at t fm (Least 𝓤 H A mem run) known (to-least 𝓤 H A mem run a b) os (λ w.
@@ -128,9 +128,9 @@ module _ {M : Type 1} {𝓤 : URA M} {H : Heap 𝓤} {A : Atoms 𝓤} {K : Type 
 
   -- `blank_entry` gives the blank entry, which fits its type
   pub calls-blank : K → FmC 𝓤 H (W .laws) C → (mem : Memory → SProp 𝓤) (run : Routine → Fun 𝓤)
-      → Triple 𝓤 (C #steps·entries·blank-entry) (BlankEntry 𝓤 H A mem run)
+      → Triple 𝓤 (C #standing·entries·blank-entry) (BlankEntry 𝓤 H A mem run)
       → (Is R blankEntry (vals blankEntry) → Seq K W Γ (lands C Λ En d (mach blankEntry) rest q))
-      → Seq K W Γ (runs C Λ En (seq (call #steps·entries·blank-entry [] d) rest) q)
+      → Seq K W Γ (runs C Λ En (seq (call #standing·entries·blank-entry [] d) rest) q)
   calls-blank t fm mem run known k =
       nothing t $ use1 W (raw (BlankEntry 𝓤 H A mem run .pre (to-blank 𝓤 H A mem run))) (goes-blank 𝓤 H A mem run W) $
       calls-at t fm (BlankEntry 𝓤 H A mem run) known (to-blank 𝓤 H A mem run) (no-more t) (λ w.
@@ -142,12 +142,12 @@ module _ {M : Type 1} {𝓤 : URA M} {H : Heap 𝓤} {A : Atoms 𝓤} {K : Type 
 
   -- `examine` gives the search examined, which fits its type again
   pub calls-examine : K → FmC 𝓤 H (W .laws) C → (mem : Memory → SProp 𝓤) (run : Routine → Fun 𝓤)
-      → Triple 𝓤 (C #steps·searches·examine) (Examine 𝓤 H A mem run)
+      → Triple 𝓤 (C #standing·searches·examine) (Examine 𝓤 H A mem run)
       → {xs : List Operand} (s : Search) (e : Entry) (p : ℕ) → Is Q s (found-vals s) → Is R e (vals e) → p < 2 ^ 64
       → Opds K W (raw (Examine 𝓤 H A mem run .pre (to-examine 𝓤 H A mem run s e p)) ∷ Γ) En xs
       (found-mach s ∷ mach e ∷ vint w64 p ∷ [])
       → (Is Q (examined s e p) (found-vals (examined s e p)) → Seq K W Γ (lands C Λ En d (found-mach (examined s e p)) rest q))
-      → Seq K W Γ (runs C Λ En (seq (call #steps·searches·examine xs d) rest) q)
+      → Seq K W Γ (runs C Λ En (seq (call #standing·searches·examine xs d) rest) q)
   calls-examine t fm mem run known s e p gs ge gp os k =
       nothing t $ use1 W (raw (Examine 𝓤 H A mem run .pre (to-examine 𝓤 H A mem run s e p)))
       (goes-examine 𝓤 H A mem run W s e p gs ge gp) $

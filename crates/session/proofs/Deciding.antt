@@ -26,19 +26,19 @@ use denote.Struct.Laws.{tells, makes}
 use denote.Triple.Spec.{tripleOf}
 use denote.Triple.Statement.{Contract, Triple}
 use Rattle.table.specs.declared.cells.Table.{Table}
-use Rattle.steps.specs.declared.records.Session.{Session}
-use Rattle.steps.specs.declared.numbers.Terminal.{Terminal}
-use Rattle.steps.specs.declared.searches.Search.{Search}
-use Rattle.steps.specs.Searching.{looking, handing}
+use Rattle.standing.specs.declared.records.Session.{Session}
+use Rattle.standing.specs.declared.numbers.Terminal.{Terminal}
+use Rattle.standing.specs.declared.searches.Search.{Search}
+use Rattle.standing.specs.Searching.{looking, handing}
 use Rattle.steps.specs.Values.{OpenedBy, AskedBy, FinishedBy, WithdrawnBy}
 use Rattle.table.proofs.cells.Table as B
 use Rattle.table.proofs.cells.Table.Laws as B′
-use Rattle.steps.proofs.records.Session as S
-use Rattle.steps.proofs.records.Session.Laws as S′
-use Rattle.steps.proofs.numbers.Terminal as N
-use Rattle.steps.proofs.numbers.Terminal.Laws as N′
-use Rattle.steps.proofs.searches.Search as F
-use Rattle.steps.proofs.searches.Search.Laws as F′
+use Rattle.standing.proofs.records.Session as S
+use Rattle.standing.proofs.records.Session.Laws as S′
+use Rattle.standing.proofs.numbers.Terminal as N
+use Rattle.standing.proofs.numbers.Terminal.Laws as N′
+use Rattle.standing.proofs.searches.Search as F
+use Rattle.standing.proofs.searches.Search.Laws as F′
 use Rattle.steps.proofs.outcomes.Opened as Opened
 use Rattle.steps.proofs.outcomes.Opened.Laws as Opened′
 use Rattle.steps.proofs.outcomes.Asked as Asked
@@ -49,10 +49,10 @@ use Rattle.steps.proofs.outcomes.Withdrawn as Withdrawn
 use Rattle.steps.proofs.outcomes.Withdrawn.Laws as Withdrawn′
 use Rattle.steps.proofs.calls.opened as opened
 use Rattle.steps.proofs.calls.opened.Symbol.{name as #opened}
-use Rattle.steps.proofs.searches.look_for as look-for
-use Rattle.steps.proofs.searches.look_for.Symbol.{name as #look-for}
-use Rattle.steps.proofs.searches.hand_on as hand-on
-use Rattle.steps.proofs.searches.hand_on.Symbol.{name as #hand-on}
+use Rattle.standing.proofs.searches.look_for as look-for
+use Rattle.standing.proofs.searches.look_for.Symbol.{name as #look-for}
+use Rattle.standing.proofs.searches.hand_on as hand-on
+use Rattle.standing.proofs.searches.hand_on.Symbol.{name as #hand-on}
 use Rattle.steps.proofs.calls.asked as asked
 use Rattle.steps.proofs.calls.asked.Symbol.{name as #asked}
 use Rattle.steps.proofs.calls.finished as finished

@@ -5,10 +5,10 @@ use mathlib.Core.List.{List}
 use Prim.Native.Nat.{ℕ}
 use lib.ListN.{set, take}
 use Rattle.text.proofs.Determined.{both-equal}
-use Rattle.steps.specs.declared.entries.Entry.{Entry}
-use Rattle.steps.specs.declared.searches.Search.{Search}
-use Rattle.steps.specs.Lists.{takenOut, blanked}
-use Rattle.steps.specs.Searching.{looked}
+use Rattle.standing.specs.declared.entries.Entry.{Entry}
+use Rattle.standing.specs.declared.searches.Search.{Search}
+use Rattle.standing.specs.Lists.{takenOut, blanked}
+use Rattle.standing.specs.Searching.{looked}
 
 pub find-determined : (l : List Entry) (n : ℕ) (s r r′ : Search) → r ≡ looked 0 s (take n l) → r′ ≡ looked 0 s (take n l) → r ≡ r′
 find-determined l n s r r′ = both-equal

@@ -35,19 +35,19 @@ use denote.Triple.Statement.{Triple}
 use denote.Triple.Clauses.{Ended, Clauses, closing}
 use denote.Triple.Walked.{says, Stays, stay-ref, gave-slice, stay-none, walkOf, AllGo, goes-none, goes-ref, goes-gave-slice, Walks, ends-at, walked, walk-meets}
 use denote.Exit.{yes}
-use Rattle.steps.specs.declared.records.Session.{Session}
-use Rattle.steps.specs.declared.entries.Entry.{Entry}
-use Rattle.steps.specs.declared.numbers.Terminal.{Terminal}
-use Rattle.steps.specs.declared.searches.Search.{Search}
-use Rattle.steps.specs.Lists.{takenOut}
-use Rattle.steps.specs.Searching.{looked}
-use Rattle.steps.proofs.records.Session as S
-use Rattle.steps.proofs.records.Session.Laws as S′
-use Rattle.steps.proofs.entries.Entry as E
-use Rattle.steps.proofs.entries.Entry.Laws as E′
-use Rattle.steps.proofs.numbers.Terminal as N
-use Rattle.steps.proofs.numbers.Terminal.Laws as N′
-use Rattle.steps.proofs.searches.Search.Laws as F′
+use Rattle.standing.specs.declared.records.Session.{Session}
+use Rattle.standing.specs.declared.entries.Entry.{Entry}
+use Rattle.standing.specs.declared.numbers.Terminal.{Terminal}
+use Rattle.standing.specs.declared.searches.Search.{Search}
+use Rattle.standing.specs.Lists.{takenOut}
+use Rattle.standing.specs.Searching.{looked}
+use Rattle.standing.proofs.records.Session as S
+use Rattle.standing.proofs.records.Session.Laws as S′
+use Rattle.standing.proofs.entries.Entry as E
+use Rattle.standing.proofs.entries.Entry.Laws as E′
+use Rattle.standing.proofs.numbers.Terminal as N
+use Rattle.standing.proofs.numbers.Terminal.Laws as N′
+use Rattle.standing.proofs.searches.Search.Laws as F′
 use Rattle.session.proofs.lists.find.Symbol.{name as #find}
 use Rattle.session.proofs.lists.take_out.Symbol.{name as #take-out}
 use Rattle.session.proofs.Answers.{Returns, returned, answered}

@@ -29,14 +29,14 @@ use denote.Struct.Laws as LL
 use denote.Triple.Spec.{tripleOf}
 use denote.Triple.Statement.{Contract, Triple}
 use denote.Triple.Clauses.{ensured, lasts}
-use Rattle.steps.specs.declared.entries.Entry.{Entry}
-use Rattle.steps.specs.declared.searches.Search.{Search}
-use Rattle.steps.specs.Lists.{blanked, takenOut}
-use Rattle.steps.specs.Searching.{looked}
-use Rattle.steps.proofs.entries.Entry as E
-use Rattle.steps.proofs.entries.Entry.Laws as E′
-use Rattle.steps.proofs.searches.Search as F
-use Rattle.steps.proofs.searches.Search.Laws as F′
+use Rattle.standing.specs.declared.entries.Entry.{Entry}
+use Rattle.standing.specs.declared.searches.Search.{Search}
+use Rattle.standing.specs.Lists.{blanked, takenOut}
+use Rattle.standing.specs.Searching.{looked}
+use Rattle.standing.proofs.entries.Entry as E
+use Rattle.standing.proofs.entries.Entry.Laws as E′
+use Rattle.standing.proofs.searches.Search as F
+use Rattle.standing.proofs.searches.Search.Laws as F′
 use Rattle.session.proofs.lists.find as find
 use Rattle.session.proofs.lists.find.Symbol.{name as #find}
 use Rattle.session.proofs.lists.append as append

@@ -7,10 +7,10 @@ use native.Mathlib.Omega.{arith}
 use mathlib.Core.List.{List, [], _∷_}
 use lib.ListN.{length, getD, take, drop, length-take, drop-of-length-le}
 use lib.Seq.{drop-cons, getD-take}
-use Rattle.steps.specs.declared.entries.Entry.{Entry}
-use Rattle.steps.specs.declared.searches.Search.{Search}
-use Rattle.steps.specs.Lists.{blankEntry}
-use Rattle.steps.specs.Searching.{examined, looked}
+use Rattle.standing.specs.declared.entries.Entry.{Entry}
+use Rattle.standing.specs.declared.searches.Search.{Search}
+use Rattle.standing.specs.Lists.{blankEntry}
+use Rattle.standing.specs.Searching.{examined, looked}
 
 -- one entry further
 looked-on : (p : ℕ) (s : Search) (e : Entry) (es : List Entry) → looked p s (e ∷ es) ≡ looked (suc p) (examined s e p) es

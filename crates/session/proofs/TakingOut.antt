@@ -6,8 +6,8 @@ use native.Mathlib.Nat.{le-of-suc-le-suc, not-suc-le-zero, zero-min, min-zero, s
 use native.Mathlib.Omega.{arith}
 use mathlib.Core.List.{List, [], _∷_}
 use lib.ListN.{length, getD, set}
-use Rattle.steps.specs.declared.entries.Entry.{Entry}
-use Rattle.steps.specs.Lists.{blankEntry, movedUp, takenOut}
+use Rattle.standing.specs.declared.entries.Entry.{Entry}
+use Rattle.standing.specs.Lists.{blankEntry, movedUp, takenOut}
 
 -- n entries move up by one, over one that is gone, and m stands behind the last
 abbrev upBefore : Entry → ℕ → List Entry → List Entry

@@ -11,24 +11,24 @@ use types.Kit.{Given}
 use denote.Laws.{Is}
 use denote.Struct.Laws.{val, owed, lawful}
 use Rattle.table.specs.declared.cells.Table.{Table}
-use Rattle.steps.specs.declared.records.Session.{Session}
-use Rattle.steps.specs.declared.entries.Entry.{Entry}
-use Rattle.steps.specs.declared.numbers.Terminal.{Terminal}
-use Rattle.steps.specs.declared.searches.Search.{Search}
+use Rattle.standing.specs.declared.records.Session.{Session}
+use Rattle.standing.specs.declared.entries.Entry.{Entry}
+use Rattle.standing.specs.declared.numbers.Terminal.{Terminal}
+use Rattle.standing.specs.declared.searches.Search.{Search}
 use Rattle.steps.specs.declared.outcomes.Opened.{Opened}
 use Rattle.steps.specs.declared.outcomes.Asked.{Asked}
 use Rattle.steps.specs.declared.outcomes.Handed.{Handed}
 use Rattle.steps.specs.declared.outcomes.Withdrawn.{Withdrawn}
 use Rattle.table.proofs.cells.Table as Table′
 use Rattle.table.proofs.cells.Table.Laws as TableLaws
-use Rattle.steps.proofs.records.Session as Session′
-use Rattle.steps.proofs.records.Session.Laws as SessionLaws
-use Rattle.steps.proofs.entries.Entry as Entry′
-use Rattle.steps.proofs.entries.Entry.Laws as EntryLaws
-use Rattle.steps.proofs.numbers.Terminal as Terminal′
-use Rattle.steps.proofs.numbers.Terminal.Laws as TerminalLaws
-use Rattle.steps.proofs.searches.Search as Search′
-use Rattle.steps.proofs.searches.Search.Laws as SearchLaws
+use Rattle.standing.proofs.records.Session as Session′
+use Rattle.standing.proofs.records.Session.Laws as SessionLaws
+use Rattle.standing.proofs.entries.Entry as Entry′
+use Rattle.standing.proofs.entries.Entry.Laws as EntryLaws
+use Rattle.standing.proofs.numbers.Terminal as Terminal′
+use Rattle.standing.proofs.numbers.Terminal.Laws as TerminalLaws
+use Rattle.standing.proofs.searches.Search as Search′
+use Rattle.standing.proofs.searches.Search.Laws as SearchLaws
 use Rattle.steps.proofs.outcomes.Opened as Opened′
 use Rattle.steps.proofs.outcomes.Opened.Laws as OpenedLaws
 use Rattle.steps.proofs.outcomes.Asked as Asked′

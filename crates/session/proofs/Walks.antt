@@ -26,13 +26,13 @@ use denote.Lend.{Held}
 use denote.Index.{place as place-at, others, row, elem-out}
 use denote.Steps.{owned}
 use denote.Struct.Laws as LL
-use Rattle.steps.specs.declared.entries.Entry.{Entry}
-use Rattle.steps.specs.declared.searches.Search.{Search}
-use Rattle.steps.specs.Lists.{blankEntry}
-use Rattle.steps.proofs.entries.Entry as E
-use Rattle.steps.proofs.entries.Entry.Laws as E′
-use Rattle.steps.proofs.searches.Search as S
-use Rattle.steps.proofs.searches.Search.Laws as S′
+use Rattle.standing.specs.declared.entries.Entry.{Entry}
+use Rattle.standing.specs.declared.searches.Search.{Search}
+use Rattle.standing.specs.Lists.{blankEntry}
+use Rattle.standing.proofs.entries.Entry as E
+use Rattle.standing.proofs.entries.Entry.Laws as E′
+use Rattle.standing.proofs.searches.Search as S
+use Rattle.standing.proofs.searches.Search.Laws as S′
 
 -- what follows the first statement
 abbrev pub behind : Body → Body

@@ -4,19 +4,19 @@ use crate::lists::append;
 use crate::lists::blank;
 use crate::lists::find;
 use crate::lists::take_out;
+use standing::entries::Entry;
+use standing::numbers::Terminal;
+use standing::records::Session;
+use standing::searches::hand_on;
+use standing::searches::look_for;
 use steps::calls::asked;
 use steps::calls::finished;
 use steps::calls::opened;
 use steps::calls::withdrawn;
-use steps::entries::Entry;
-use steps::numbers::Terminal;
-use steps::records::Session;
 use steps::replies::AskReply;
 use steps::replies::FinishReply;
 use steps::replies::OpenReply;
 use steps::replies::WithdrawReply;
-use steps::searches::hand_on;
-use steps::searches::look_for;
 use table::cells::Table;
 
 // A session over a table is opened.

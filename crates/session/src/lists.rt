@@ -1,13 +1,13 @@
 // The waiting list, lent by the caller: few thin functions, each of which leaves every place that it does not name.
 ghost use mathlib.Core.Path.{_≡_};
 ghost use lib.ListN.{take, set};
-ghost use Rattle.steps.specs.Lists.{takenOut, blanked};
-ghost use Rattle.steps.specs.Searching.{looked};
-use steps::entries::Entry;
-use steps::entries::blank_entry;
-use steps::numbers::least;
-use steps::searches::Search;
-use steps::searches::examine;
+ghost use Rattle.standing.specs.Lists.{takenOut, blanked};
+ghost use Rattle.standing.specs.Searching.{looked};
+use standing::entries::Entry;
+use standing::entries::blank_entry;
+use standing::numbers::least;
+use standing::searches::Search;
+use standing::searches::examine;
 
 // The first n entries, examined one after the other; fewer if there are fewer.
 pub fn find(list: &[Entry], n: usize, search: Search) -> Search

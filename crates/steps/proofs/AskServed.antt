@@ -15,17 +15,17 @@ use Rattle.meaning.specs.Calls.Call.{ask}
 use Rattle.table.specs.Cells.{namesOf}
 use Rattle.table.specs.Following.{foundIn}
 use Rattle.table.specs.declared.names.Found.the-variants.{At, Nowhere}
-use Rattle.steps.specs.declared.numbers.Terminal.{Terminal}
-use Rattle.steps.specs.declared.entries.Entry.{Entry}
-use Rattle.steps.specs.declared.records.Session.{Session}
-use Rattle.steps.specs.declared.searches.Search.{Search}
+use Rattle.standing.specs.declared.numbers.Terminal.{Terminal}
+use Rattle.standing.specs.declared.entries.Entry.{Entry}
+use Rattle.standing.specs.declared.records.Session.{Session}
+use Rattle.standing.specs.declared.searches.Search.{Search}
 use Rattle.steps.specs.declared.replies.AskReply.the-variants.{Granted, Delayed}
 use Rattle.steps.specs.declared.outcomes.Asked.{Asked}
 use Rattle.steps.specs.Answers.{askAnswer}
 use Rattle.steps.specs.Answers.Answer.{granted, delayed}
-use Rattle.steps.specs.Lists.{inUse, blankEntry}
-use Rattle.steps.specs.Searching.{looking, looked}
-use Rattle.steps.specs.Soundness.{RecordSound, meetsSet}
+use Rattle.standing.specs.Lists.{inUse, blankEntry}
+use Rattle.standing.specs.Searching.{looking, looked}
+use Rattle.standing.specs.Soundness.{RecordSound, meetsSet}
 use Rattle.steps.specs.Steps.{Outcome, isFree, granting, counting, askStep}
 use Rattle.steps.specs.Refusals.{Row, First, Runs, Waits}
 use Rattle.steps.specs.Refusals.Row.{no-such-operation, ask-by-the-running, ask-by-a-waiting}
@@ -35,7 +35,7 @@ use Rattle.steps.specs.Promises.{Ask-core-is-step}
 use Rattle.steps.specs.Values.{askOutcome, oneMore, runsIn, isFound, notAsked, askCore, askKnown, askNamed, askValue, AskedBy}
 use Rattle.steps.proofs.Pigeonhole.{room-for-one}
 use Rattle.steps.proofs.RowNumbers.{rows-left, ask-rows-left}
-use Rattle.steps.proofs.SoundLists.{in-use}
+use Rattle.standing.proofs.SoundLists.{in-use}
 use Rattle.steps.proofs.Verdicts.{runs-says, found, waits-says, Passed, Common, common}
 use Rattle.steps.proofs.Verdicts.Common.{stops, goes}
 

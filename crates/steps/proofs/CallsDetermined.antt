@@ -6,8 +6,8 @@ use mathlib.Core.Logic.{_≢_, ⊎-elim}
 use Prim.Native.Nat.{ℕ}
 use native.Mathlib.Omega.{arith}
 use Rattle.meaning.proofs.SetLaws.{below-or-not}
-use Rattle.steps.specs.declared.entries.Entry.{Entry}
-use Rattle.steps.specs.declared.records.Session.{Session}
+use Rattle.standing.specs.declared.entries.Entry.{Entry}
+use Rattle.standing.specs.declared.records.Session.{Session}
 use Rattle.steps.specs.declared.replies.OpenReply.the-variants.{Opened, Refused as OpenRefused}
 use Rattle.steps.specs.declared.replies.AskReply.the-variants.{Granted, Delayed, Refused as AskRefused}
 use Rattle.steps.specs.declared.replies.Next.{Next}

@@ -1,37 +1,26 @@
 -- Sound in, sound out, for each call: a refusal leaves record and list as they were; otherwise no row of the refusals applies,
 -- and that is what the step needs to leave them sound.
-use mathlib.Core.Path.{_≡_, refl, sym, ap, subst}
+use mathlib.Core.Path.{_≡_, refl}
 use mathlib.Core.Bool.{Bool, true, false}
 use mathlib.Core.List.{List}
-use Prim.Native.Nat.{ℕ, _<_, _≤_}
+use Prim.Native.Nat.{_<_}
 use native.Mathlib.Omega.{arith}
 use lib.ListN.{length, length-take}
 use Rattle.meaning.specs.Names.{Name, key}
 use Rattle.meaning.specs.Operations.{holds, numberOf}
-use Rattle.meaning.specs.Calls.{Call}
 use Rattle.meaning.proofs.NumberLaws.{held-below}
 use Rattle.table.specs.Cells.{namesOf, spellings}
 use Rattle.table.specs.declared.cells.Table.{Table}
-use Rattle.steps.specs.declared.entries.Entry.{Entry}
-use Rattle.steps.specs.declared.records.Session.{Session}
-use Rattle.steps.specs.Answers.{openAnswer}
-use Rattle.steps.specs.Answers.Answer.{refused}
-use Rattle.steps.specs.Calling.{Serves, entryFor}
-use Rattle.steps.specs.Calling.Serves.{refuses, does}
+use Rattle.standing.specs.declared.entries.Entry.{Entry}
+use Rattle.steps.specs.Calling.{entryFor}
 use Rattle.steps.specs.Promises.{SoundAfter, Open-keeps, Opened-sound, Ask-keeps, Finish-keeps, Withdraw-keeps}
-use Rattle.steps.specs.Refusals.{Row, OpenRow, None}
-use Rattle.steps.specs.Refusals.Row.{short-list, terminal-above-63, no-such-operation, ask-by-the-running, ask-by-a-waiting}
+use Rattle.steps.specs.Refusals.{OpenRow, None}
+use Rattle.steps.specs.Refusals.Row.{terminal-above-63, no-such-operation, ask-by-the-running, ask-by-a-waiting}
 use Rattle.steps.specs.Refusals.OpenRow.{short-list as short-for-opening, unsound-table}
-use Rattle.steps.specs.Soundness.{Sound}
-use Rattle.steps.specs.Steps.{Outcome, openStep}
+use Rattle.steps.specs.Steps.{openStep}
 use Rattle.steps.proofs.TableStable.{table-stable}
+use Rattle.steps.proofs.CallCases.{served, opened-served, long-list}
 use Rattle.steps.proofs.StepsKeep.{open-step-sound, ask-step-keeps, finish-step-keeps, withdraw-step-keeps}
-
--- a call keeps record and list sound if its step does where no row applies
-kept : {R : ℕ → Type 0} {s : Session} {l : List Entry} {step o : Outcome} → Serves R s l step o → Sound s l
-    → (None R → SoundAfter step) → SoundAfter o
-kept (refuses m first e) sound goes = subst SoundAfter (sym e) sound
-kept (does none e) sound goes = subst SoundAfter (sym e) (goes none)
 
 opens-sound : (t : Table) (l : List Entry) → None (OpenRow t l) → SoundAfter (openStep t l)
 opens-sound t l none =
@@ -39,14 +28,10 @@ opens-sound t l none =
     open-step-sound t l (omega arith) (table-stable t (λ unsound. none 9 (unsound-table unsound)))
 
 pub open-keeps : Open-keeps
-open-keeps s s′ l l′ t r opens sound = kept opens sound (opens-sound t l)
+open-keeps s s′ l l′ t r opens sound = served SoundAfter opens (λ m. sound) (opens-sound t l)
 
 pub opened-sound : Opened-sound
-opened-sound s s′ l l′ t r (refuses m first e) is-opened =
-    let is-refused : openAnswer r ≡ refused m = ap (λ (o : Outcome). o .answer) e in
-    let never : _≡_ {A = ℕ} 0 1 = cc in
-    absurd (omega arith)
-opened-sound s s′ l l′ t r (does none e) is-opened = subst SoundAfter (sym e) (opens-sound t l none)
+opened-sound s s′ l l′ t r opens is-opened = opened-served SoundAfter opens is-opened (opens-sound t l)
 
 -- the operation of a name that the table holds is one of its operations
 known-below : (t : Table) (k : Name) → ¬ (holds (namesOf t) k ≡ false) → numberOf (namesOf t) k < t .names
@@ -59,12 +44,9 @@ known-below t k h =
     go true h = refl
     go false h = absurd (h refl)
 
-long-list : {s : Session} {l : List Entry} {c : Call} → None (Row s l c) → 64 ≤ length l
-long-list {l = l} none = let long : ¬ (length l < 64) = λ short. none 8 (short-list short) in omega arith
-
 pub ask-keeps : Ask-keeps
 ask-keeps s s′ l l′ t n r asks sound =
-    kept asks sound (λ none.
+    served SoundAfter asks (λ m. sound) (λ none.
     let few : ¬ (63 < t .0) = λ many. none 10 (terminal-above-63 many) in
     ask-step-keeps s l (entryFor s t n) (long-list none) sound (omega arith)
     (λ runs. none 12 (ask-by-the-running (t .0) n refl runs))
@@ -73,8 +55,8 @@ ask-keeps s s′ l l′ t n r asks sound =
 
 pub finish-keeps : Finish-keeps
 finish-keeps s s′ l l′ t r finishes sound =
-    kept finishes sound (λ none. finish-step-keeps s l (long-list none) sound)
+    served SoundAfter finishes (λ m. sound) (λ none. finish-step-keeps s l (long-list none) sound)
 
 pub withdraw-keeps : Withdraw-keeps
 withdraw-keeps s s′ l l′ t r withdraws sound =
-    kept withdraws sound (λ none. withdraw-step-keeps s l (t .0) (long-list none) sound)
+    served SoundAfter withdraws (λ m. sound) (λ none. withdraw-step-keeps s l (t .0) (long-list none) sound)

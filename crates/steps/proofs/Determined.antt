@@ -10,42 +10,20 @@ use Rattle.meaning.proofs.SetLaws.{both-decide}
 use Rattle.text.proofs.Determined.{both-equal}
 use Rattle.table.specs.declared.cells.Table.{Table}
 use Rattle.table.specs.declared.numbers.Operation.{Operation}
-use Rattle.steps.specs.declared.numbers.Terminal.{Terminal}
-use Rattle.steps.specs.declared.entries.Entry.{Entry}
-use Rattle.steps.specs.declared.records.Session.{Session}
-use Rattle.steps.specs.declared.searches.Search.{Search}
-use Rattle.steps.specs.declared.searches.Found.{Found}
+use Rattle.standing.specs.declared.numbers.Terminal.{Terminal}
+use Rattle.standing.specs.declared.entries.Entry.{Entry}
+use Rattle.standing.specs.declared.records.Session.{Session}
+use Rattle.standing.specs.declared.searches.Search.{Search}
+use Rattle.standing.specs.declared.searches.Found.{Found}
 use Rattle.steps.specs.declared.outcomes.Opened.{Opened}
 use Rattle.steps.specs.declared.outcomes.Asked.{Asked}
 use Rattle.steps.specs.declared.outcomes.Handed.{Handed}
 use Rattle.steps.specs.declared.outcomes.Withdrawn.{Withdrawn}
-use Rattle.steps.specs.Lists.{blankEntry}
-use Rattle.steps.specs.Searching.{operationsIn, examined, looking, handing}
-use Rattle.steps.specs.Soundness.{RecordSound}
+use Rattle.standing.specs.Lists.{blankEntry}
+use Rattle.standing.specs.Searching.{operationsIn, examined, looking, handing}
+use Rattle.standing.specs.Soundness.{RecordSound}
 use Rattle.steps.specs.Steps.{opening}
 use Rattle.steps.specs.Values.{askCore, finishCore, withdrawCore, Decided, OpenedBy, AskedBy, FinishedBy, WithdrawnBy}
-
-pub least-determined : (a b r r′ : ℕ) → r ≡ min a b → r′ ≡ min a b → r ≡ r′
-least-determined a b r r′ = both-equal
-
-pub blank-entry-determined : (r r′ : Entry) → r ≡ blankEntry → r′ ≡ blankEntry → r ≡ r′
-blank-entry-determined r r′ = both-equal
-
-pub operations-in-determined : (positions : ℕ) (operations : List Operation) (set r r′ : ℕ)
-    → r ≡ operationsIn (take positions operations) set → r′ ≡ operationsIn (take positions operations) set → r ≡ r′
-operations-in-determined positions operations set r r′ = both-equal
-
-pub examine-determined : (s : Search) (e : Entry) (place : ℕ) (r r′ : Search) → r ≡ examined s e place → r′ ≡ examined s e place → r ≡ r′
-examine-determined s e place r r′ = both-equal
-
-pub look-for-determined : (s : Session) (t : Terminal) (r r′ : Search) → r ≡ looking s t → r′ ≡ looking s t → r ≡ r′
-look-for-determined s t r r′ = both-equal
-
-pub hand-on-determined : (s : Session) (t : Terminal) (r r′ : Search) → r ≡ handing s t → r′ ≡ handing s t → r ≡ r′
-hand-on-determined s t r r′ = both-equal
-
-pub record-is-sound-determined : (s : Session) (r r′ : Bool) → (r ≡ true) ↔ RecordSound s → (r′ ≡ true) ↔ RecordSound s → r ≡ r′
-record-is-sound-determined s r r′ = both-decide r r′
 
 pub open-step-determined : (t : Table) (r r′ : Session) → r ≡ opening t → r′ ≡ opening t → r ≡ r′
 open-step-determined t r r′ = both-equal

@@ -10,17 +10,17 @@ use lib.ListN.{length, getD}
 use lib.Seq.{getD-take}
 use Rattle.meaning.specs.Sets.{mem, unionOf}
 use Rattle.meaning.specs.Calls.Call.{finish}
-use Rattle.steps.specs.declared.numbers.Terminal.{Terminal}
-use Rattle.steps.specs.declared.entries.Entry.{Entry}
-use Rattle.steps.specs.declared.records.Session.{Session}
-use Rattle.steps.specs.declared.searches.Search.{Search}
-use Rattle.steps.specs.declared.searches.Found.{Found}
-use Rattle.steps.specs.declared.searches.Found.the-variants.{Nobody, At}
+use Rattle.standing.specs.declared.numbers.Terminal.{Terminal}
+use Rattle.standing.specs.declared.entries.Entry.{Entry}
+use Rattle.standing.specs.declared.records.Session.{Session}
+use Rattle.standing.specs.declared.searches.Search.{Search}
+use Rattle.standing.specs.declared.searches.Found.{Found}
+use Rattle.standing.specs.declared.searches.Found.the-variants.{Nobody, At}
 use Rattle.steps.specs.declared.outcomes.Handed.{Handed}
 use Rattle.steps.specs.Answers.{finishAnswer}
-use Rattle.steps.specs.Lists.{blankEntry, inUse, behind, seek, takenOut}
-use Rattle.steps.specs.Searching.{operationsBy, searching, handing, looked}
-use Rattle.steps.specs.Soundness.{RecordSound, Sound, meetsSet}
+use Rattle.standing.specs.Lists.{blankEntry, inUse, behind, seek, takenOut}
+use Rattle.standing.specs.Searching.{operationsBy, searching, handing, looked}
+use Rattle.standing.specs.Soundness.{RecordSound, Sound, meetsSet}
 use Rattle.steps.specs.Steps.{Outcome, freed, picked, handOn, finishStep}
 use Rattle.steps.specs.Refusals.{Row, First}
 use Rattle.steps.specs.Refusals.Row.{finish-by-another}
@@ -29,11 +29,11 @@ use Rattle.steps.specs.Calling.Serves.{refuses, does}
 use Rattle.steps.specs.Promises.{Finish-core-is-step}
 use Rattle.steps.specs.Values.{finishOutcome, runsIn, notFinished, handCore, finishCore, finishValue, FinishedBy}
 use Rattle.steps.proofs.AskServed.{one-more}
-use Rattle.steps.proofs.Looking.{looked-first}
-use Rattle.steps.proofs.Meeting.{operation-meets}
+use Rattle.standing.proofs.Looking.{looked-first}
+use Rattle.standing.proofs.Meeting.{operation-meets}
 use Rattle.steps.proofs.RowNumbers.{rows-left, finish-rows-left}
-use Rattle.steps.proofs.Seeking.{Finds, seek-finds}
-use Rattle.steps.proofs.SoundLists.{in-use}
+use Rattle.standing.proofs.Seeking.{Finds, seek-finds}
+use Rattle.standing.proofs.SoundLists.{in-use}
 use Rattle.steps.proofs.Verdicts.{runs-says, found, Passed, Common, common}
 use Rattle.steps.proofs.Verdicts.Common.{stops, goes}
 

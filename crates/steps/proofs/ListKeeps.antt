@@ -10,13 +10,13 @@ use native.Mathlib.Omega.{arith}
 use lib.ListN.{length, getD, set}
 use lib.Seq.{getD-set-same, getD-set-other}
 use Rattle.meaning.proofs.SetLaws.{below-or-not}
-use Rattle.steps.specs.declared.entries.Entry.{Entry}
-use Rattle.steps.specs.declared.numbers.Terminal.{Terminal}
-use Rattle.steps.specs.declared.records.Session.{Session}
-use Rattle.steps.specs.declared.records.State.the-variants.{Free, Running}
-use Rattle.steps.specs.Lists.{blankEntry, takenOut}
-use Rattle.steps.specs.Soundness.{RecordSound, Sound, terminalIn, operationIn, meetsSet}
-use Rattle.steps.proofs.EntryLaws.{cameFrom, getD-taken-out, came-from-below, came-from-another, came-from-apart}
+use Rattle.standing.specs.declared.entries.Entry.{Entry}
+use Rattle.standing.specs.declared.numbers.Terminal.{Terminal}
+use Rattle.standing.specs.declared.records.Session.{Session}
+use Rattle.standing.specs.declared.records.State.the-variants.{Free, Running}
+use Rattle.standing.specs.Lists.{blankEntry, takenOut}
+use Rattle.standing.specs.Soundness.{RecordSound, Sound, entryIn, terminalIn, operationIn, meetsSet}
+use Rattle.standing.proofs.EntryLaws.{taken-out-says}
 
 -- of the first n entries, where there are that many names
 pub record Listed (names n : ℕ) (l : List Entry) : Type 0 where
@@ -43,24 +43,43 @@ sound-by s l sound all none nobody =
 
 -- of n entries in use, the one at `at` is taken out
 module _ (n at : ℕ) (l : List Entry) (fits : n ≤ length l) (here : at < n) where
-  left-at : (i : ℕ) → i < n - 1 → getD (takenOut n at l) i blankEntry ≡ getD l (cameFrom at i) blankEntry
-  left-at i h = getD-taken-out n at l blankEntry i fits here (omega arith)
+  -- what stands at place i then is the entry in use that stood at place j
+  abbrev Stood : ℕ → ℕ → Type 0
+  Stood i j = (j < n) × (entryIn (takenOut n at l) i ≡ entryIn l j)
 
-  was-in-use : (i : ℕ) → i < n - 1 → cameFrom at i < n
-  was-in-use i h = omega (arith, came-from-below at i)
+  stays : (i : ℕ) → i < n - 1 → i < at → Stood i i
+  stays i h before = (omega arith, taken-out-says n at l here fits .ahead i before)
+
+  moves : (i : ℕ) → i < n - 1 → at ≤ i → Stood i (suc i)
+  moves i h behind = (omega arith, taken-out-says n at l here fits .moved-up i behind (omega arith))
 
   -- what holds of each of the others holds of each that is left
   pub each-left : (P : Entry → Type 0) → ((i : ℕ) → i < n → i ≢ at → P (getD l i blankEntry))
       → (i : ℕ) → i < n - 1 → P (getD (takenOut n at l) i blankEntry)
-  each-left P all i h = rw (left-at i h) (all (cameFrom at i) (was-in-use i h) (came-from-another at i))
+  each-left P all i h = go (below-or-not i at)
+    where
+      go : (i < at) ⊎ (at ≤ i) → P (getD (takenOut n at l) i blankEntry)
+      go (inl a) = let (used, same) = stays i h a in rw same (all i used (omega arith))
+      go (inr a) = let (used, same) = moves i h a in rw same (all (suc i) used (omega arith))
+
+  left-differ : ((i j : ℕ) → i < n → j < n → terminalIn l i ≡ terminalIn l j → i ≡ j)
+      → (i j : ℕ) → i < n - 1 → j < n - 1 → terminalIn (takenOut n at l) i ≡ terminalIn (takenOut n at l) j → i ≡ j
+  left-differ differ i j h k q = go (below-or-not i at) (below-or-not j at)
+    where
+      one-place : {i′ j′ : ℕ} → Stood i i′ → Stood j j′ → i′ ≡ j′
+      one-place {i′} {j′} a b = differ i′ j′ (a .0) (b .0) (cc (a .1, b .1))
+
+      go : (i < at) ⊎ (at ≤ i) → (j < at) ⊎ (at ≤ j) → i ≡ j
+      go (inl a) (inl b) = one-place (stays i h a) (stays j k b)
+      go (inl a) (inr b) = omega (arith, one-place (stays i h a) (moves j k b))
+      go (inr a) (inl b) = omega (arith, one-place (moves i h a) (stays j k b))
+      go (inr a) (inr b) = omega (arith, one-place (moves i h a) (moves j k b))
 
   pub left-listed : (names : ℕ) → Listed names n l → Listed names (n - 1) (takenOut n at l)
   left-listed names all =
       record {
         below = each-left (λ e. e .terminal .0 < 64) (λ i h other. all .below i h);
-        differ = λ i j h k e.
-            came-from-apart at i j
-            (all .differ (cameFrom at i) (cameFrom at j) (was-in-use i h) (was-in-use j k) (cc (left-at i h, left-at j k)));
+        differ = left-differ (all .differ);
         exist = each-left (λ e. e .operation .0 < names) (λ i h other. all .exist i h);
       }
 

@@ -10,11 +10,11 @@ use lib.ListN.{length}
 use Rattle.meaning.proofs.SetLaws.{below-or-not}
 use Rattle.table.specs.Soundness.{Sound as TableSound}
 use Rattle.table.specs.declared.cells.Table.{Table}
-use Rattle.steps.specs.declared.entries.Entry.{Entry}
-use Rattle.steps.specs.declared.records.Session.{Session}
+use Rattle.standing.specs.declared.entries.Entry.{Entry}
+use Rattle.standing.specs.declared.records.Session.{Session}
 use Rattle.steps.specs.declared.outcomes.Opened.{Opened}
 use Rattle.steps.specs.Answers.{openAnswer}
-use Rattle.steps.specs.Lists.{blanked}
+use Rattle.standing.specs.Lists.{blanked}
 use Rattle.steps.specs.Steps.{Outcome, openStep}
 use Rattle.steps.specs.Refusals.{OpenRow}
 use Rattle.steps.specs.Refusals.OpenRow.{short-list, unsound-table}

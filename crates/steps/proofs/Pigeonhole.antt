@@ -9,7 +9,7 @@ use native.Mathlib.Omega.{arith}
 use borrow.Author.Tests.{eqb-true, eqb-false}
 use lib.Dec.{eqb}
 use Rattle.steps.specs.Promises.{Room-for-one}
-use Rattle.steps.specs.Soundness.{terminalIn}
+use Rattle.standing.specs.Soundness.{terminalIn}
 
 -- f 0 to f (n - 1) are below m, and all different
 pub record Different (n m : ℕ) (f : ℕ → ℕ) : Type 0 where

@@ -17,11 +17,11 @@ use Rattle.table.specs.Soundness.{Fit, Sound as TableSound}
 use Rattle.table.specs.declared.cells.Table.{Table}
 use Rattle.table.specs.declared.numbers.Operation.{Operation}
 use Rattle.table.proofs.PositionSets.{in-positions-with}
-use Rattle.steps.specs.declared.entries.Entry.{Entry}
-use Rattle.steps.specs.declared.records.Session.{Session}
-use Rattle.steps.specs.Soundness.{RecordSound, meetsSet}
+use Rattle.standing.specs.declared.entries.Entry.{Entry}
+use Rattle.standing.specs.declared.records.Session.{Session}
+use Rattle.standing.specs.Soundness.{RecordSound, meetsSet}
 use Rattle.steps.specs.Steps.{opening, granting, counting, freed}
-use Rattle.steps.proofs.States.{free-not-running, same-runner}
+use Rattle.standing.proofs.States.{free-not-running, same-runner}
 
 -- a position of an operation's permission set has that operation
 permitted-at : (t : Table) (o p : ℕ) → In p (permissionSet t o) → operationAt t p ≡ o

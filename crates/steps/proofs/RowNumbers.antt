@@ -10,11 +10,11 @@ use Rattle.meaning.specs.Operations.{holds}
 use Rattle.meaning.specs.Calls.{Call}
 use Rattle.meaning.specs.Calls.Call.{ask, finish, withdraw}
 use Rattle.table.specs.Cells.{namesOf}
-use Rattle.steps.specs.declared.entries.Entry.{Entry}
-use Rattle.steps.specs.declared.records.Session.{Session}
+use Rattle.standing.specs.declared.entries.Entry.{Entry}
+use Rattle.standing.specs.declared.records.Session.{Session}
 use Rattle.steps.specs.Refusals.{Row, terminalOf, Runs, Waits}
 use Rattle.steps.specs.Refusals.Row.{short-list, unsound, terminal-above-63, no-such-operation, ask-by-the-running, ask-by-a-waiting, finish-by-another, withdraw-by-another}
-use Rattle.steps.specs.Soundness.{Sound}
+use Rattle.standing.specs.Soundness.{Sound}
 
 module _ (s : Session) (l : List Entry) where
   -- the rows that every call has: 8, 9 and 10, and what is left where they do not apply

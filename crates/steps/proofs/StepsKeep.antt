@@ -11,21 +11,21 @@ use native.Mathlib.Omega.{arith}
 use lib.Dec.{eqb}
 use lib.ListN.{length, set}
 use lib.Seq.{length-take-le}
-use Rattle.steps.specs.declared.entries.Entry.{Entry}
-use Rattle.steps.specs.declared.records.Session.{Session}
-use Rattle.steps.specs.declared.records.State.the-variants.{Running}
-use Rattle.steps.specs.declared.searches.Found.{Found}
-use Rattle.steps.specs.declared.searches.Found.the-variants.{Nobody, At}
+use Rattle.standing.specs.declared.entries.Entry.{Entry}
+use Rattle.standing.specs.declared.records.Session.{Session}
+use Rattle.standing.specs.declared.records.State.the-variants.{Running}
+use Rattle.standing.specs.declared.searches.Found.{Found}
+use Rattle.standing.specs.declared.searches.Found.the-variants.{Nobody, At}
 use Rattle.steps.specs.Answers.Answer.{granted, delayed}
-use Rattle.steps.specs.Lists.{inUse, placeOf, takenOut}
+use Rattle.standing.specs.Lists.{inUse, placeOf, takenOut}
 use Rattle.steps.specs.Promises.{SoundAfter, Open-step-sound, Ask-step-keeps, Finish-step-keeps, Withdraw-step-keeps}
 use Rattle.steps.specs.Refusals.{Runs, Waits}
-use Rattle.steps.specs.Soundness.{RecordSound, Sound, terminalIn, meetsSet}
+use Rattle.standing.specs.Soundness.{RecordSound, Sound, terminalIn, meetsSet}
 use Rattle.steps.specs.Steps.{isFree, opening, granting, counting, freed, openStep, askStep}
 use Rattle.steps.specs.Steps.{picked, handOn, finishStep, entryOf, takeBack, withdrawStep}
-use Rattle.steps.proofs.States.{free-not-running, same-runner}
+use Rattle.standing.proofs.States.{free-not-running, same-runner}
 use Rattle.steps.proofs.Pigeonhole.{room-for-one}
-use Rattle.steps.proofs.Seeking.{Finds, seek-finds, found-in-use, nobody-in-use}
+use Rattle.standing.proofs.Seeking.{Finds, seek-finds, found-in-use, nobody-in-use}
 use Rattle.steps.proofs.RecordKeeps.{opening-sound, granting-sound, counting-sound, freed-sound}
 use Rattle.steps.proofs.ListKeeps.{Listed, listed, sound-by, each-left, left-listed, each-put, put-listed}
 

@@ -12,25 +12,25 @@ use lib.ListN.{length, getD}
 use lib.Seq.{getD-take}
 use Rattle.meaning.specs.Calls.{Call}
 use Rattle.meaning.proofs.SetLaws.{below-or-not}
-use Rattle.steps.specs.declared.numbers.Terminal.{Terminal}
-use Rattle.steps.specs.declared.entries.Entry.{Entry}
-use Rattle.steps.specs.declared.records.Session.{Session}
-use Rattle.steps.specs.declared.records.State.{State}
-use Rattle.steps.specs.declared.records.State.the-variants.{Free, Running}
-use Rattle.steps.specs.declared.searches.Search.{Search}
-use Rattle.steps.specs.declared.searches.Found.{Found}
-use Rattle.steps.specs.declared.searches.Found.the-variants.{Nobody, At}
-use Rattle.steps.specs.Lists.{blankEntry, inUse, seek}
-use Rattle.steps.specs.Searching.{searching, looked}
-use Rattle.steps.specs.Soundness.{RecordSound, Sound}
+use Rattle.standing.specs.declared.numbers.Terminal.{Terminal}
+use Rattle.standing.specs.declared.entries.Entry.{Entry}
+use Rattle.standing.specs.declared.records.Session.{Session}
+use Rattle.standing.specs.declared.records.State.{State}
+use Rattle.standing.specs.declared.records.State.the-variants.{Free, Running}
+use Rattle.standing.specs.declared.searches.Search.{Search}
+use Rattle.standing.specs.declared.searches.Found.{Found}
+use Rattle.standing.specs.declared.searches.Found.the-variants.{Nobody, At}
+use Rattle.standing.specs.Lists.{blankEntry, inUse, seek}
+use Rattle.standing.specs.Searching.{searching, looked}
+use Rattle.standing.specs.Soundness.{RecordSound, Sound}
 use Rattle.steps.specs.Refusals.{Row, First, terminalOf, Waits}
 use Rattle.steps.specs.Refusals.Row.{short-list, unsound, terminal-above-63}
 use Rattle.steps.specs.Values.{firstNumber, runsIn, isFound}
-use Rattle.steps.proofs.Looking.{looked-own}
+use Rattle.standing.proofs.Looking.{looked-own}
 use Rattle.steps.proofs.RowNumbers.{rows-left}
-use Rattle.steps.proofs.Seeking.{Finds, seek-finds}
-use Rattle.steps.proofs.SoundLists.{in-use, looking-decides}
-use Rattle.steps.proofs.States.{free-not-running, same-runner}
+use Rattle.standing.proofs.Seeking.{Finds, seek-finds}
+use Rattle.standing.proofs.SoundLists.{in-use, looking-decides}
+use Rattle.standing.proofs.States.{free-not-running, same-runner}
 
 -- the running terminal
 pub runs-says : (st : State) (t : Terminal) → (runsIn st t ≡ true) ↔ (st ≡ Running t)

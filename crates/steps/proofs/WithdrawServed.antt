@@ -7,18 +7,18 @@ use Prim.Native.Nat.{ℕ, _≤_, _<_}
 use native.Mathlib.Omega.{arith}
 use lib.ListN.{length}
 use Rattle.meaning.specs.Calls.Call.{withdraw}
-use Rattle.steps.specs.declared.numbers.Terminal.{Terminal}
-use Rattle.steps.specs.declared.entries.Entry.{Entry}
-use Rattle.steps.specs.declared.records.Session.{Session}
-use Rattle.steps.specs.declared.searches.Search.{Search}
-use Rattle.steps.specs.declared.searches.Waiter.{Waiter}
-use Rattle.steps.specs.declared.searches.Found.{Found}
-use Rattle.steps.specs.declared.searches.Found.the-variants.{Nobody, At}
+use Rattle.standing.specs.declared.numbers.Terminal.{Terminal}
+use Rattle.standing.specs.declared.entries.Entry.{Entry}
+use Rattle.standing.specs.declared.records.Session.{Session}
+use Rattle.standing.specs.declared.searches.Search.{Search}
+use Rattle.standing.specs.declared.searches.Waiter.{Waiter}
+use Rattle.standing.specs.declared.searches.Found.{Found}
+use Rattle.standing.specs.declared.searches.Found.the-variants.{Nobody, At}
 use Rattle.steps.specs.declared.outcomes.Withdrawn.{Withdrawn}
 use Rattle.steps.specs.Answers.{withdrawAnswer}
-use Rattle.steps.specs.Lists.{inUse, takenOut}
-use Rattle.steps.specs.Searching.{looking, looked}
-use Rattle.steps.specs.Soundness.{RecordSound}
+use Rattle.standing.specs.Lists.{inUse, takenOut}
+use Rattle.standing.specs.Searching.{looking, looked}
+use Rattle.standing.specs.Soundness.{RecordSound}
 use Rattle.steps.specs.Steps.{Outcome, entryOf, takeBack, withdrawStep}
 use Rattle.steps.specs.Refusals.{Row, First, Waits}
 use Rattle.steps.specs.Refusals.Row.{withdraw-by-another}

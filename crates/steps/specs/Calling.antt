@@ -7,9 +7,9 @@ use Rattle.meaning.specs.Operations.{numberOf}
 use Rattle.meaning.specs.Calls.Call.{ask, finish, withdraw}
 use Rattle.table.specs.Cells.{namesOf}
 use Rattle.table.specs.declared.cells.Table.{Table}
-use Rattle.steps.specs.declared.numbers.Terminal.{Terminal}
-use Rattle.steps.specs.declared.entries.Entry.{Entry}
-use Rattle.steps.specs.declared.records.Session.{Session}
+use Rattle.standing.specs.declared.numbers.Terminal.{Terminal}
+use Rattle.standing.specs.declared.entries.Entry.{Entry}
+use Rattle.standing.specs.declared.records.Session.{Session}
 use Rattle.steps.specs.declared.replies.OpenReply.{OpenReply}
 use Rattle.steps.specs.declared.replies.AskReply.{AskReply}
 use Rattle.steps.specs.declared.replies.FinishReply.{FinishReply}

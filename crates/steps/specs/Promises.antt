@@ -2,26 +2,26 @@
 -- under the same name in small letters.
 use mathlib.Core.Path.{_≡_}
 use mathlib.Core.List.{List}
-use Prim.Native.Nat.{ℕ, suc, _≤_, _<_}
+use Prim.Native.Nat.{ℕ, _≤_, _<_}
 use lib.ListN.{length}
 use Rattle.meaning.specs.Names.{Name}
 use Rattle.table.specs.Soundness.{Sound as TableSound}
 use Rattle.table.specs.declared.cells.Table.{Table}
-use Rattle.steps.specs.declared.numbers.Terminal.{Terminal}
-use Rattle.steps.specs.declared.entries.Entry.{Entry}
-use Rattle.steps.specs.declared.records.Session.{Session}
-use Rattle.steps.specs.declared.searches.Waiter.{Waiter}
-use Rattle.steps.specs.declared.searches.Found.the-variants.{At}
+use Rattle.standing.specs.declared.numbers.Terminal.{Terminal}
+use Rattle.standing.specs.declared.entries.Entry.{Entry}
+use Rattle.standing.specs.declared.records.Session.{Session}
+use Rattle.standing.specs.declared.searches.Waiter.{Waiter}
+use Rattle.standing.specs.declared.searches.Found.the-variants.{At}
 use Rattle.steps.specs.declared.replies.OpenReply.{OpenReply}
 use Rattle.steps.specs.declared.replies.AskReply.{AskReply}
 use Rattle.steps.specs.declared.replies.FinishReply.{FinishReply}
 use Rattle.steps.specs.declared.replies.WithdrawReply.{WithdrawReply}
 use Rattle.steps.specs.Answers.{openAnswer, askAnswer, finishAnswer, withdrawAnswer}
 use Rattle.steps.specs.Answers.Answer.{opened}
-use Rattle.steps.specs.Soundness.{Sound, entryIn}
+use Rattle.standing.specs.Soundness.{Sound, entryIn}
 use Rattle.steps.specs.Refusals.{Runs, Waits}
-use Rattle.steps.specs.Lists.{blankEntry, inUse, takenOut}
-use Rattle.steps.specs.Searching.{looked, looking, handing}
+use Rattle.standing.specs.Lists.{blankEntry, inUse}
+use Rattle.standing.specs.Searching.{looked, looking, handing}
 use Rattle.steps.specs.Values.{askCore, finishCore, withdrawCore, askOutcome, finishOutcome, withdrawOutcome}
 use Rattle.steps.specs.Steps.{Outcome, openStep, askStep, finishStep, withdrawStep}
 use Rattle.steps.specs.Calling.{Opens, Asks, Finishes, Withdraws}
@@ -86,18 +86,6 @@ Finish-keeps =
 abbrev pub Withdraw-keeps : Type 0
 Withdraw-keeps =
     (s s′ : Session) (l l′ : List Entry) (t : Terminal) (r : WithdrawReply) → Withdraws s l t r s′ l′ → Sound s l → Sound s′ l′
-
--- "When an entry is taken out, later ones move up by one and the last used place becomes blank", place by place: of n entries in use, the
--- one at p; the length is the list's own
-pub record TakenOut (n p : ℕ) (l l′ : List Entry) : Type 0 where
-  pub ahead : (i : ℕ) → i < p → entryIn l′ i ≡ entryIn l i
-  pub moved-up : (i : ℕ) → p ≤ i → suc i < n → entryIn l′ i ≡ entryIn l (suc i)
-  pub last-blank : (i : ℕ) → suc i ≡ n → entryIn l′ i ≡ blankEntry
-  pub behind : (i : ℕ) → n ≤ i → entryIn l′ i ≡ entryIn l i
-  pub same-length : length l′ ≡ length l
-
-abbrev pub Taken-out-says : Type 0
-Taken-out-says = (n p : ℕ) (l : List Entry) → p < n → n ≤ length l → TakenOut n p l (takenOut n p l)
 
 -- "Entries from 64 on are never touched", by any call on any record and list
 abbrev pub Untouched : List Entry → List Entry → Type 0

@@ -12,10 +12,10 @@ use Rattle.meaning.specs.Calls.Call.{ask, finish, withdraw}
 use Rattle.table.specs.Cells.{namesOf}
 use Rattle.table.specs.Soundness.{Sound as TableSound}
 use Rattle.table.specs.declared.cells.Table.{Table}
-use Rattle.steps.specs.declared.entries.Entry.{Entry}
-use Rattle.steps.specs.declared.records.Session.{Session}
-use Rattle.steps.specs.declared.records.State.the-variants.{Running}
-use Rattle.steps.specs.Soundness.{Sound, terminalIn}
+use Rattle.standing.specs.declared.entries.Entry.{Entry}
+use Rattle.standing.specs.declared.records.Session.{Session}
+use Rattle.standing.specs.declared.records.State.the-variants.{Running}
+use Rattle.standing.specs.Soundness.{Sound, terminalIn}
 
 abbrev pub terminalOf : Call → ℕ
 terminalOf (ask t n) = t

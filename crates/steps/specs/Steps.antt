@@ -8,16 +8,16 @@ use lib.ListN.{length, set}
 use Rattle.meaning.specs.Sets.{meeting, unionOf}
 use Rattle.table.specs.Following.{permissionSet}
 use Rattle.table.specs.declared.cells.Table.{Table}
-use Rattle.steps.specs.declared.entries.Entry.{Entry}
-use Rattle.steps.specs.declared.records.Session.{Session}
-use Rattle.steps.specs.declared.records.State.{State}
-use Rattle.steps.specs.declared.records.State.the-variants.{Free, Running}
-use Rattle.steps.specs.declared.searches.Found.{Found}
-use Rattle.steps.specs.declared.searches.Found.the-variants.{Nobody, At}
+use Rattle.standing.specs.declared.entries.Entry.{Entry}
+use Rattle.standing.specs.declared.records.Session.{Session}
+use Rattle.standing.specs.declared.records.State.{State}
+use Rattle.standing.specs.declared.records.State.the-variants.{Free, Running}
+use Rattle.standing.specs.declared.searches.Found.{Found}
+use Rattle.standing.specs.declared.searches.Found.the-variants.{Nobody, At}
 use Rattle.steps.specs.Answers.{Answer}
 use Rattle.steps.specs.Answers.Answer.{opened, granted, delayed, finished, handed, withdrawn}
-use Rattle.steps.specs.Lists.{inUse, blanked, placeOf, takenOut, seek}
-use Rattle.steps.specs.Soundness.{meetsSet}
+use Rattle.standing.specs.Lists.{inUse, blanked, placeOf, takenOut, seek}
+use Rattle.standing.specs.Soundness.{meetsSet}
 
 -- what a call leaves: its reply, the record and the list
 pub record Outcome : Type 0 where

@@ -14,15 +14,15 @@ use Rattle.table.specs.Soundness.{Sound as TableSound}
 use Rattle.table.specs.declared.cells.Table.{Table}
 use Rattle.table.specs.declared.names.Found.{Found as Named}
 use Rattle.table.specs.declared.names.Found.the-variants.{At as NamedAt, Nowhere}
-use Rattle.steps.specs.declared.numbers.Terminal.{Terminal}
-use Rattle.steps.specs.declared.entries.Entry.{Entry}
-use Rattle.steps.specs.declared.records.Session.{Session}
-use Rattle.steps.specs.declared.records.State.{State}
-use Rattle.steps.specs.declared.records.State.the-variants.{Free, Running}
-use Rattle.steps.specs.declared.searches.Search.{Search}
-use Rattle.steps.specs.declared.searches.Waiter.{Waiter}
-use Rattle.steps.specs.declared.searches.Found.{Found}
-use Rattle.steps.specs.declared.searches.Found.the-variants.{Nobody, At}
+use Rattle.standing.specs.declared.numbers.Terminal.{Terminal}
+use Rattle.standing.specs.declared.entries.Entry.{Entry}
+use Rattle.standing.specs.declared.records.Session.{Session}
+use Rattle.standing.specs.declared.records.State.{State}
+use Rattle.standing.specs.declared.records.State.the-variants.{Free, Running}
+use Rattle.standing.specs.declared.searches.Search.{Search}
+use Rattle.standing.specs.declared.searches.Waiter.{Waiter}
+use Rattle.standing.specs.declared.searches.Found.{Found}
+use Rattle.standing.specs.declared.searches.Found.the-variants.{Nobody, At}
 use Rattle.steps.specs.declared.replies.OpenReply.the-variants.{Opened as Opens, Refused as OpenRefused}
 use Rattle.steps.specs.declared.replies.AskReply.the-variants.{Granted, Delayed, Refused as AskRefused}
 use Rattle.steps.specs.declared.replies.Next.the-variants.{Granted as Grants, Nobody as NobodyNext}
@@ -33,8 +33,8 @@ use Rattle.steps.specs.declared.outcomes.Asked.{Asked}
 use Rattle.steps.specs.declared.outcomes.Handed.{Handed}
 use Rattle.steps.specs.declared.outcomes.Withdrawn.{Withdrawn}
 use Rattle.steps.specs.Answers.{askAnswer, finishAnswer, withdrawAnswer}
-use Rattle.steps.specs.Lists.{blankEntry, takenOut}
-use Rattle.steps.specs.Soundness.{RecordSound, meetsSet}
+use Rattle.standing.specs.Lists.{blankEntry, takenOut}
+use Rattle.standing.specs.Soundness.{RecordSound, meetsSet}
 use Rattle.steps.specs.Steps.{Outcome, isFree, opening, granting, counting, freed}
 
 -- a record over the same table

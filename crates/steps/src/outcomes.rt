@@ -1,10 +1,10 @@
 // What a call makes of a record, by value: its reply, the record after it, and what is then done with the list.
-use crate::entries::Entry;
-use crate::records::Session;
 use crate::replies::AskReply;
 use crate::replies::FinishReply;
 use crate::replies::OpenReply;
 use crate::replies::WithdrawReply;
+use standing::entries::Entry;
+use standing::records::Session;
 
 // The first `blanks` entries become blank.
 pub struct Opened {

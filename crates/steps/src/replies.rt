@@ -1,5 +1,5 @@
 // What the calls reply. A refusal has its number (document 01, "Numbers of refusal", 8 to 15).
-use crate::numbers::Terminal;
+use standing::numbers::Terminal;
 use table::numbers::Operation;
 
 pub enum OpenReply {

@@ -35,24 +35,24 @@ use denote.Triple.Statement.{Triple}
 use denote.Triple.Table.{entered, cited}
 use denote.Triple.Walked.{says, Stays, stay-ref, gave-slice, stay-none, stay-none-slice, walkOf, AllGo, goes-none, goes-none-slice, goes-ref, goes-gave-slice, Walks, ends-at, walked, walk-meets}
 use denote.Exit.{yes}
-use Rattle.steps.specs.declared.records.Session.{Session}
-use Rattle.steps.specs.declared.entries.Entry.{Entry}
-use Rattle.steps.specs.declared.numbers.Terminal.{Terminal}
+use Rattle.standing.specs.declared.records.Session.{Session}
+use Rattle.standing.specs.declared.entries.Entry.{Entry}
+use Rattle.standing.specs.declared.numbers.Terminal.{Terminal}
 use Rattle.steps.specs.declared.outcomes.Asked.{Asked}
 use Rattle.steps.specs.declared.replies.AskReply.{AskReply}
 use Rattle.steps.specs.Calling.{Asks}
-use Rattle.steps.proofs.records.Session as S
-use Rattle.steps.proofs.records.Session.Laws as S′
-use Rattle.steps.proofs.entries.Entry as E
-use Rattle.steps.proofs.numbers.Terminal as N
-use Rattle.steps.proofs.numbers.Terminal.Laws as N′
+use Rattle.standing.proofs.records.Session as S
+use Rattle.standing.proofs.records.Session.Laws as S′
+use Rattle.standing.proofs.entries.Entry as E
+use Rattle.standing.proofs.numbers.Terminal as N
+use Rattle.standing.proofs.numbers.Terminal.Laws as N′
 use Rattle.steps.proofs.outcomes.Asked as O
 use Rattle.steps.proofs.outcomes.Asked.Laws as O′
 use Rattle.steps.proofs.replies.AskReply as Y
 use Rattle.steps.proofs.replies.AskReply.Laws as Y′
-use Rattle.steps.proofs.searches.look_for.Symbol as look-for-def
-use Rattle.steps.proofs.searches.look_for.Symbol.{name as #look-for}
-use Rattle.steps.proofs.searches.look_for.Met as look-for-thm
+use Rattle.standing.proofs.searches.look_for.Symbol as look-for-def
+use Rattle.standing.proofs.searches.look_for.Symbol.{name as #look-for}
+use Rattle.standing.proofs.searches.look_for.Met as look-for-thm
 use Rattle.steps.proofs.calls.asked.Symbol as asked-def
 use Rattle.steps.proofs.calls.asked.Symbol.{name as #asked}
 use Rattle.steps.proofs.calls.asked.Met as asked-thm
@@ -257,7 +257,7 @@ ask-spec 𝓤 H 𝓜 𝓖 𝓡 =
     (tables 𝓤 H 𝓜 𝓡 code.env .C) (tables 𝓤 H 𝓜 𝓡 code.env .Λ) #ask code.function (code.unfolded 𝓤 H 𝓜 𝓡)
     (ask-meets 𝓤 H (𝓖 .A) (givenOf 𝓤 H 𝓜 𝓖) (𝓜 .mem) (𝓡 .run) (tablesOf 𝓤 H 𝓜 (tables 𝓤 H 𝓜 𝓡 code.env))
     (cited 𝓤 H (LookForSays 𝓤 H (𝓖 .A) (𝓜 .mem) (𝓡 .run)) 𝓜 𝓡 code.env #look-for look-for-def.routine
-    code.calls-steps·searches·look-for (look-for-thm.met 𝓤 H 𝓜 𝓖 𝓡))
+    code.calls-standing·searches·look-for (look-for-thm.met 𝓤 H 𝓜 𝓖 𝓡))
     (cited 𝓤 H (FindSays 𝓤 H (𝓖 .A) (𝓜 .mem) (𝓡 .run)) 𝓜 𝓡 code.env #find find-def.routine code.calls-session·lists·find
     (find-thm.met 𝓤 H 𝓜 𝓖 𝓡))
     (cited 𝓤 H (AskedSays 𝓤 H (𝓖 .A) (𝓜 .mem) (𝓡 .run)) 𝓜 𝓡 code.env #asked asked-def.routine code.calls-steps·calls·asked

@@ -17,15 +17,15 @@ use denote.Triple.Statement.{Triple}
 use denote.Triple.Table.{entered, cited}
 use Rattle.steps.specs.declared.outcomes.Handed.{Handed}
 use Rattle.steps.specs.Calling.{Finishes}
-use Rattle.steps.specs.Searching.{handing}
+use Rattle.standing.specs.Searching.{handing}
 use Rattle.steps.specs.Values.{FinishedBy}
 use Rattle.steps.proofs.outcomes.Handed as O
 use Rattle.steps.proofs.outcomes.Handed.Laws as O′
 use Rattle.steps.proofs.replies.FinishReply as Y
 use Rattle.steps.proofs.replies.FinishReply.Laws as Y′
-use Rattle.steps.proofs.searches.hand_on.Symbol as start-def
-use Rattle.steps.proofs.searches.hand_on.Symbol.{name as #hand-on}
-use Rattle.steps.proofs.searches.hand_on.Met as start-thm
+use Rattle.standing.proofs.searches.hand_on.Symbol as start-def
+use Rattle.standing.proofs.searches.hand_on.Symbol.{name as #hand-on}
+use Rattle.standing.proofs.searches.hand_on.Met as start-thm
 use Rattle.steps.proofs.calls.finished.Symbol as decide-def
 use Rattle.steps.proofs.calls.finished.Symbol.{name as #finished}
 use Rattle.steps.proofs.calls.finished.Met as decide-thm
@@ -96,7 +96,7 @@ finish-spec 𝓤 H 𝓜 𝓖 𝓡 =
     entered 𝓤 H (tripleOf 𝓤 H (𝓖 .A) finish′.signature (finish′.spec 𝓤 H (𝓖 .A) (𝓜 .mem) (𝓡 .run)))
     (tables 𝓤 H 𝓜 𝓡 code.env .C) (tables 𝓤 H 𝓜 𝓡 code.env .Λ) #finish code.function (code.unfolded 𝓤 H 𝓜 𝓡)
     (finish-meets 𝓤 H (𝓖 .A) (givenOf 𝓤 H 𝓜 𝓖) (𝓜 .mem) (𝓡 .run) (tablesOf 𝓤 H 𝓜 (tables 𝓤 H 𝓜 𝓡 code.env))
-    (cited 𝓤 H (HandOnSays 𝓤 H (𝓖 .A) (𝓜 .mem) (𝓡 .run)) 𝓜 𝓡 code.env #hand-on start-def.routine code.calls-steps·searches·hand-on
+    (cited 𝓤 H (HandOnSays 𝓤 H (𝓖 .A) (𝓜 .mem) (𝓡 .run)) 𝓜 𝓡 code.env #hand-on start-def.routine code.calls-standing·searches·hand-on
     (start-thm.met 𝓤 H 𝓜 𝓖 𝓡))
     (cited 𝓤 H (FinishedSays 𝓤 H (𝓖 .A) (𝓜 .mem) (𝓡 .run)) 𝓜 𝓡 code.env #finished decide-def.routine
     code.calls-steps·calls·finished (decide-thm.met 𝓤 H 𝓜 𝓖 𝓡))

@@ -34,17 +34,17 @@ use denote.Triple.Table.{entered, cited}
 use denote.Triple.Walked.{says, Stays, stay-ref, gave-slice, stay-none, walkOf, AllGo, goes-none, goes-ref, goes-gave-slice, Walks, ends-at, walked, walk-meets}
 use denote.Exit.{yes}
 use Rattle.table.specs.declared.cells.Table.{Table}
-use Rattle.steps.specs.declared.records.Session.{Session}
-use Rattle.steps.specs.declared.entries.Entry.{Entry}
+use Rattle.standing.specs.declared.records.Session.{Session}
+use Rattle.standing.specs.declared.entries.Entry.{Entry}
 use Rattle.steps.specs.declared.outcomes.Opened.{Opened}
 use Rattle.steps.specs.declared.replies.OpenReply.{OpenReply}
 use Rattle.steps.specs.Calling.{Opens}
-use Rattle.steps.specs.Lists.{blanked}
+use Rattle.standing.specs.Lists.{blanked}
 use Rattle.table.proofs.cells.Table as B
 use Rattle.table.proofs.cells.Table.Laws as B′
-use Rattle.steps.proofs.records.Session as S
-use Rattle.steps.proofs.records.Session.Laws as S′
-use Rattle.steps.proofs.entries.Entry as E
+use Rattle.standing.proofs.records.Session as S
+use Rattle.standing.proofs.records.Session.Laws as S′
+use Rattle.standing.proofs.entries.Entry as E
 use Rattle.steps.proofs.outcomes.Opened as O
 use Rattle.steps.proofs.outcomes.Opened.Laws as O′
 use Rattle.steps.proofs.replies.OpenReply as Y

@@ -17,15 +17,15 @@ use denote.Triple.Statement.{Triple}
 use denote.Triple.Table.{entered, cited}
 use Rattle.steps.specs.declared.outcomes.Withdrawn.{Withdrawn}
 use Rattle.steps.specs.Calling.{Withdraws}
-use Rattle.steps.specs.Searching.{looking}
+use Rattle.standing.specs.Searching.{looking}
 use Rattle.steps.specs.Values.{WithdrawnBy}
 use Rattle.steps.proofs.outcomes.Withdrawn as O
 use Rattle.steps.proofs.outcomes.Withdrawn.Laws as O′
 use Rattle.steps.proofs.replies.WithdrawReply as Y
 use Rattle.steps.proofs.replies.WithdrawReply.Laws as Y′
-use Rattle.steps.proofs.searches.look_for.Symbol as start-def
-use Rattle.steps.proofs.searches.look_for.Symbol.{name as #look-for}
-use Rattle.steps.proofs.searches.look_for.Met as start-thm
+use Rattle.standing.proofs.searches.look_for.Symbol as start-def
+use Rattle.standing.proofs.searches.look_for.Symbol.{name as #look-for}
+use Rattle.standing.proofs.searches.look_for.Met as start-thm
 use Rattle.steps.proofs.calls.withdrawn.Symbol as decide-def
 use Rattle.steps.proofs.calls.withdrawn.Symbol.{name as #withdrawn}
 use Rattle.steps.proofs.calls.withdrawn.Met as decide-thm
@@ -97,7 +97,7 @@ withdraw-spec 𝓤 H 𝓜 𝓖 𝓡 =
     entered 𝓤 H (tripleOf 𝓤 H (𝓖 .A) withdraw′.signature (withdraw′.spec 𝓤 H (𝓖 .A) (𝓜 .mem) (𝓡 .run)))
     (tables 𝓤 H 𝓜 𝓡 code.env .C) (tables 𝓤 H 𝓜 𝓡 code.env .Λ) #withdraw code.function (code.unfolded 𝓤 H 𝓜 𝓡)
     (withdraw-meets 𝓤 H (𝓖 .A) (givenOf 𝓤 H 𝓜 𝓖) (𝓜 .mem) (𝓡 .run) (tablesOf 𝓤 H 𝓜 (tables 𝓤 H 𝓜 𝓡 code.env))
-    (cited 𝓤 H (LookForSays 𝓤 H (𝓖 .A) (𝓜 .mem) (𝓡 .run)) 𝓜 𝓡 code.env #look-for start-def.routine code.calls-steps·searches·look-for
+    (cited 𝓤 H (LookForSays 𝓤 H (𝓖 .A) (𝓜 .mem) (𝓡 .run)) 𝓜 𝓡 code.env #look-for start-def.routine code.calls-standing·searches·look-for
     (start-thm.met 𝓤 H 𝓜 𝓖 𝓡))
     (cited 𝓤 H (WithdrawnSays 𝓤 H (𝓖 .A) (𝓜 .mem) (𝓡 .run)) 𝓜 𝓡 code.env #withdrawn decide-def.routine
     code.calls-steps·calls·withdrawn (decide-thm.met 𝓤 H 𝓜 𝓖 𝓡))

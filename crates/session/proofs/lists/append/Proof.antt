@@ -40,9 +40,9 @@ use denote.Triple.Spec.{Meets, tripleOf}
 use denote.Triple.Table.{entered}
 use denote.Triple.Walked.{says, Stays, stay-slice, stay-none, walkOf, Walks, ends-at, walked, goes-slice, goes-none, walk-meets}
 use denote.Exit.{yes}
-use Rattle.steps.specs.declared.entries.Entry.{Entry}
-use Rattle.steps.proofs.entries.Entry as E
-use Rattle.steps.proofs.entries.Entry.Laws as E′
+use Rattle.standing.specs.declared.entries.Entry.{Entry}
+use Rattle.standing.proofs.entries.Entry as E
+use Rattle.standing.proofs.entries.Entry.Laws as E′
 use Rattle.session.proofs.Walks.{Closed, R, vals, mach, word, lent, entry-typed, number-owned, entry-owned, list-owned}
 use Rattle.session.proofs.Walks.{entry-out, held}
 use Rattle.session.proofs.lists.append.Key.{name as #session·lists·append}

@@ -46,20 +46,20 @@ use denote.Triple.Table.{entered, cited}
 use denote.Triple.Walked.{says, Stays, stay-none-slice, stay-none, walkOf, AllGo, goes-none-slice, goes-none, Walks, ends-at}
 use denote.Triple.Walked.{walked, walk-meets}
 use denote.Exit.{yes}
-use Rattle.steps.specs.declared.entries.Entry.{Entry}
-use Rattle.steps.specs.declared.searches.Search.{Search}
-use Rattle.steps.specs.Lists.{blankEntry}
-use Rattle.steps.specs.Searching.{examined, looked}
-use Rattle.steps.proofs.entries.Entry as E
-use Rattle.steps.proofs.entries.Entry.Laws as E′
-use Rattle.steps.proofs.searches.Search as S
-use Rattle.steps.proofs.searches.Search.Laws as S′
-use Rattle.steps.proofs.numbers.least.Symbol as least-def
-use Rattle.steps.proofs.numbers.least.Symbol.{name as #steps·numbers·least}
-use Rattle.steps.proofs.numbers.least.Met as least-thm
-use Rattle.steps.proofs.searches.examine.Symbol as examine-def
-use Rattle.steps.proofs.searches.examine.Symbol.{name as #steps·searches·examine}
-use Rattle.steps.proofs.searches.examine.Met as examine-thm
+use Rattle.standing.specs.declared.entries.Entry.{Entry}
+use Rattle.standing.specs.declared.searches.Search.{Search}
+use Rattle.standing.specs.Lists.{blankEntry}
+use Rattle.standing.specs.Searching.{examined, looked}
+use Rattle.standing.proofs.entries.Entry as E
+use Rattle.standing.proofs.entries.Entry.Laws as E′
+use Rattle.standing.proofs.searches.Search as S
+use Rattle.standing.proofs.searches.Search.Laws as S′
+use Rattle.standing.proofs.numbers.least.Symbol as least-def
+use Rattle.standing.proofs.numbers.least.Symbol.{name as #standing·numbers·least}
+use Rattle.standing.proofs.numbers.least.Met as least-thm
+use Rattle.standing.proofs.searches.examine.Symbol as examine-def
+use Rattle.standing.proofs.searches.examine.Symbol.{name as #standing·searches·examine}
+use Rattle.standing.proofs.searches.examine.Met as examine-thm
 use Rattle.session.proofs.Walks.{behind, R, vals, Q, found-vals, found-mach, word, shown, entry-typed, search-typed}
 use Rattle.session.proofs.Walks.{number-owned, search-owned, entry-out, held}
 use Rattle.session.proofs.Calling.{Least, Examine, calls-least, calls-examine}
@@ -111,7 +111,7 @@ module _ {M : Type 1} (𝓤 : URA M) (H : Heap 𝓤) (A : Atoms 𝓤) (W : Given
   Nearer-wf : WellFounded Nearer
   Nearer-wf = InvImage·wf (λ (u : Upto). end - u .0) (Nat·lt-wfRel .wf)
 
-  module _ (𝓣 : Tables 𝓤 H) (known : Triple 𝓤 (𝓣 .C #steps·searches·examine) (Examine 𝓤 H A mem run))
+  module _ (𝓣 : Tables 𝓤 H) (known : Triple 𝓤 (𝓣 .C #standing·searches·examine) (Examine 𝓤 H A mem run))
       (l₀ l₁ l₂ l₃ l₄ l₅ l₆ l₇ l₈ l₉ l₁₀ l₁₁ : ℕ) where
     abbrev C : Calls 𝓤 H
     C = 𝓣 .C
@@ -215,8 +215,8 @@ module _ {M : Type 1} (𝓤 : URA M) (H : Heap 𝓤) (A : Atoms 𝓤) (W : Given
     looped : (u : Upto) → Sq W (At u) (runs C Λ En mir.t-5 (atRet En Post))
     looped u = first ! $ blocks ! $ loops ! 𝓣 Nearer Nearer-wf At turns u
 
-  walk : (𝓣 : Tables 𝓤 H) → Triple 𝓤 (𝓣 .C #steps·numbers·least) (Least 𝓤 H A mem run)
-      → Triple 𝓤 (𝓣 .C #steps·searches·examine) (Examine 𝓤 H A mem run)
+  walk : (𝓣 : Tables 𝓤 H) → Triple 𝓤 (𝓣 .C #standing·numbers·least) (Least 𝓤 H A mem run)
+      → Triple 𝓤 (𝓣 .C #standing·searches·examine) (Examine 𝓤 H A mem run)
       → ent 𝓤 (onEntry 𝓤 H A find.signature (κ, tt) (q, tt) x at)
       (WpFn 𝓤 H (𝓣 .C) (𝓣 .Λ) code.function (sliceVal (b, o) (length ys) ∷ vint w64 n ∷ found-mach search ∷ []) Post)
   walk 𝓣 known-least known-examine =
@@ -245,8 +245,8 @@ module _ {M : Type 1} (𝓤 : URA M) (H : Heap 𝓤) (A : Atoms 𝓤) (W : Given
 
 module _ {M : Type 1} (𝓤 : URA M) (H : Heap 𝓤) (A : Atoms 𝓤) (W : Given 𝓤 H A) (mem : Memory → SProp 𝓤)
     (run : Routine → Fun 𝓤) where
-  find-walks : (𝓣 : Tables 𝓤 H) → Triple 𝓤 (𝓣 .C #steps·numbers·least) (Least 𝓤 H A mem run)
-      → Triple 𝓤 (𝓣 .C #steps·searches·examine) (Examine 𝓤 H A mem run)
+  find-walks : (𝓣 : Tables 𝓤 H) → Triple 𝓤 (𝓣 .C #standing·numbers·least) (Least 𝓤 H A mem run)
+      → Triple 𝓤 (𝓣 .C #standing·searches·examine) (Examine 𝓤 H A mem run)
       → Walks 𝓤 H A find.ended stayed (WpFn 𝓤 H (𝓣 .C) (𝓣 .Λ) code.function) (find.clauses 𝓤 H A mem run)
   find-walks 𝓣 known-least known-examine =
       walked 𝓤 H A find.ended stayed (find.clauses 𝓤 H A mem run) (WpFn 𝓤 H (𝓣 .C) (𝓣 .Λ) code.function)
@@ -267,8 +267,8 @@ module _ {M : Type 1} (𝓤 : URA M) (H : Heap 𝓤) (A : Atoms 𝓤) (W : Given
 
 find-meets : {M : Type 1} (𝓤 : URA M) (H : Heap 𝓤) (A : Atoms 𝓤) → Given 𝓤 H A
     → (mem : Memory → SProp 𝓤) (run : Routine → Fun 𝓤) (𝓣 : Tables 𝓤 H)
-    → Triple 𝓤 (𝓣 .C #steps·numbers·least) (Least 𝓤 H A mem run)
-    → Triple 𝓤 (𝓣 .C #steps·searches·examine) (Examine 𝓤 H A mem run)
+    → Triple 𝓤 (𝓣 .C #standing·numbers·least) (Least 𝓤 H A mem run)
+    → Triple 𝓤 (𝓣 .C #standing·searches·examine) (Examine 𝓤 H A mem run)
     → Meets 𝓤 H A find.signature (WpFn 𝓤 H (𝓣 .C) (𝓣 .Λ) code.function) (find.spec 𝓤 H A mem run)
 find-meets 𝓤 H A W mem run 𝓣 known-least known-examine =
     walk-meets 𝓤 H A find.ended stayed W (goes 𝓤 H A W mem run) (find.clauses 𝓤 H A mem run)
@@ -281,7 +281,7 @@ find-spec 𝓤 H 𝓜 𝓖 𝓡 =
     entered 𝓤 H (tripleOf 𝓤 H (𝓖 .A) find.signature (find.spec 𝓤 H (𝓖 .A) (𝓜 .mem) (𝓡 .run)))
     (tables 𝓤 H 𝓜 𝓡 code.env .C) (tables 𝓤 H 𝓜 𝓡 code.env .Λ) #session·lists·find code.function (code.unfolded 𝓤 H 𝓜 𝓡)
     (find-meets 𝓤 H (𝓖 .A) (givenOf 𝓤 H 𝓜 𝓖) (𝓜 .mem) (𝓡 .run) (tablesOf 𝓤 H 𝓜 (tables 𝓤 H 𝓜 𝓡 code.env))
-    (cited 𝓤 H (Least 𝓤 H (𝓖 .A) (𝓜 .mem) (𝓡 .run)) 𝓜 𝓡 code.env #steps·numbers·least least-def.routine
-    code.calls-steps·numbers·least (least-thm.met 𝓤 H 𝓜 𝓖 𝓡))
-    (cited 𝓤 H (Examine 𝓤 H (𝓖 .A) (𝓜 .mem) (𝓡 .run)) 𝓜 𝓡 code.env #steps·searches·examine examine-def.routine
-    code.calls-steps·searches·examine (examine-thm.met 𝓤 H 𝓜 𝓖 𝓡)))
+    (cited 𝓤 H (Least 𝓤 H (𝓖 .A) (𝓜 .mem) (𝓡 .run)) 𝓜 𝓡 code.env #standing·numbers·least least-def.routine
+    code.calls-standing·numbers·least (least-thm.met 𝓤 H 𝓜 𝓖 𝓡))
+    (cited 𝓤 H (Examine 𝓤 H (𝓖 .A) (𝓜 .mem) (𝓡 .run)) 𝓜 𝓡 code.env #standing·searches·examine examine-def.routine
+    code.calls-standing·searches·examine (examine-thm.met 𝓤 H 𝓜 𝓖 𝓡)))

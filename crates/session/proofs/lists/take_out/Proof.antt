@@ -44,15 +44,15 @@ use denote.Triple.Table.{entered, cited}
 use denote.Triple.Walked.{says, Stays, stay-slice, stay-none, walkOf, AllGo, goes-slice, goes-none, Walks, ends-at, walked}
 use denote.Triple.Walked.{walk-meets}
 use denote.Exit.{yes}
-use Rattle.steps.specs.declared.entries.Entry.{Entry}
-use Rattle.steps.specs.Lists.{blankEntry, takenOut}
-use Rattle.steps.proofs.entries.Entry.Laws as E′
-use Rattle.steps.proofs.numbers.least.Symbol as least-def
-use Rattle.steps.proofs.numbers.least.Symbol.{name as #steps·numbers·least}
-use Rattle.steps.proofs.numbers.least.Met as least-thm
-use Rattle.steps.proofs.entries.blank_entry.Symbol as blank-entry-def
-use Rattle.steps.proofs.entries.blank_entry.Symbol.{name as #steps·entries·blank-entry}
-use Rattle.steps.proofs.entries.blank_entry.Met as blank-entry-thm
+use Rattle.standing.specs.declared.entries.Entry.{Entry}
+use Rattle.standing.specs.Lists.{blankEntry, takenOut}
+use Rattle.standing.proofs.entries.Entry.Laws as E′
+use Rattle.standing.proofs.numbers.least.Symbol as least-def
+use Rattle.standing.proofs.numbers.least.Symbol.{name as #standing·numbers·least}
+use Rattle.standing.proofs.numbers.least.Met as least-thm
+use Rattle.standing.proofs.entries.blank_entry.Symbol as blank-entry-def
+use Rattle.standing.proofs.entries.blank_entry.Symbol.{name as #standing·entries·blank-entry}
+use Rattle.standing.proofs.entries.blank_entry.Met as blank-entry-thm
 use Rattle.session.proofs.Walks.{Opened, Closed, behind, R, vals, mach, word, lent, entry-typed, number-owned, entry-owned}
 use Rattle.session.proofs.Walks.{list-owned, entry-out, held}
 use Rattle.session.proofs.Calling.{Least, BlankEntry, calls-least, calls-blank}
@@ -227,8 +227,8 @@ module _ {M : Type 1} (𝓤 : URA M) (H : Heap 𝓤) (A : Atoms 𝓤) (W : Given
     looped : (u : Upto) → Sq W (At u) (runs C Λ En mir.t-4 (atRet En Post))
     looped u = first ! $ blocks ! $ loops ! 𝓣 Nearer Nearer-wf At turns u
 
-  walk : (𝓣 : Tables 𝓤 H) → Triple 𝓤 (𝓣 .C #steps·numbers·least) (Least 𝓤 H A mem run)
-      → Triple 𝓤 (𝓣 .C #steps·entries·blank-entry) (BlankEntry 𝓤 H A mem run)
+  walk : (𝓣 : Tables 𝓤 H) → Triple 𝓤 (𝓣 .C #standing·numbers·least) (Least 𝓤 H A mem run)
+      → Triple 𝓤 (𝓣 .C #standing·entries·blank-entry) (BlankEntry 𝓤 H A mem run)
       → ent 𝓤 (onEntry 𝓤 H A take-out.signature (κ, tt) (q, tt) x at)
       (WpFn 𝓤 H (𝓣 .C) (𝓣 .Λ) code.function (sliceVal (b, o) (length ys) ∷ vint w64 n ∷ vint w64 k ∷ []) Post)
   walk 𝓣 known-least known-blank =
@@ -258,8 +258,8 @@ module _ {M : Type 1} (𝓤 : URA M) (H : Heap 𝓤) (A : Atoms 𝓤) (W : Given
 
 module _ {M : Type 1} (𝓤 : URA M) (H : Heap 𝓤) (A : Atoms 𝓤) (W : Given 𝓤 H A) (mem : Memory → SProp 𝓤)
     (run : Routine → Fun 𝓤) where
-  take-out-walks : (𝓣 : Tables 𝓤 H) → Triple 𝓤 (𝓣 .C #steps·numbers·least) (Least 𝓤 H A mem run)
-      → Triple 𝓤 (𝓣 .C #steps·entries·blank-entry) (BlankEntry 𝓤 H A mem run)
+  take-out-walks : (𝓣 : Tables 𝓤 H) → Triple 𝓤 (𝓣 .C #standing·numbers·least) (Least 𝓤 H A mem run)
+      → Triple 𝓤 (𝓣 .C #standing·entries·blank-entry) (BlankEntry 𝓤 H A mem run)
       → Walks 𝓤 H A take-out.ended stayed (WpFn 𝓤 H (𝓣 .C) (𝓣 .Λ) code.function) (take-out.clauses 𝓤 H A mem run)
   take-out-walks 𝓣 known-least known-blank =
       walked 𝓤 H A take-out.ended stayed (take-out.clauses 𝓤 H A mem run) (WpFn 𝓤 H (𝓣 .C) (𝓣 .Λ) code.function)
@@ -277,8 +277,8 @@ module _ {M : Type 1} (𝓤 : URA M) (H : Heap 𝓤) (A : Atoms 𝓤) (W : Given
 
 take-out-meets : {M : Type 1} (𝓤 : URA M) (H : Heap 𝓤) (A : Atoms 𝓤) → Given 𝓤 H A
     → (mem : Memory → SProp 𝓤) (run : Routine → Fun 𝓤) (𝓣 : Tables 𝓤 H)
-    → Triple 𝓤 (𝓣 .C #steps·numbers·least) (Least 𝓤 H A mem run)
-    → Triple 𝓤 (𝓣 .C #steps·entries·blank-entry) (BlankEntry 𝓤 H A mem run)
+    → Triple 𝓤 (𝓣 .C #standing·numbers·least) (Least 𝓤 H A mem run)
+    → Triple 𝓤 (𝓣 .C #standing·entries·blank-entry) (BlankEntry 𝓤 H A mem run)
     → Meets 𝓤 H A take-out.signature (WpFn 𝓤 H (𝓣 .C) (𝓣 .Λ) code.function) (take-out.spec 𝓤 H A mem run)
 take-out-meets 𝓤 H A W mem run 𝓣 known-least known-blank =
     walk-meets 𝓤 H A take-out.ended stayed W (goes 𝓤 H A W mem run) (take-out.clauses 𝓤 H A mem run)
@@ -291,7 +291,7 @@ take-out-spec 𝓤 H 𝓜 𝓖 𝓡 =
     entered 𝓤 H (tripleOf 𝓤 H (𝓖 .A) take-out.signature (take-out.spec 𝓤 H (𝓖 .A) (𝓜 .mem) (𝓡 .run)))
     (tables 𝓤 H 𝓜 𝓡 code.env .C) (tables 𝓤 H 𝓜 𝓡 code.env .Λ) #session·lists·take-out code.function (code.unfolded 𝓤 H 𝓜 𝓡)
     (take-out-meets 𝓤 H (𝓖 .A) (givenOf 𝓤 H 𝓜 𝓖) (𝓜 .mem) (𝓡 .run) (tablesOf 𝓤 H 𝓜 (tables 𝓤 H 𝓜 𝓡 code.env))
-    (cited 𝓤 H (Least 𝓤 H (𝓖 .A) (𝓜 .mem) (𝓡 .run)) 𝓜 𝓡 code.env #steps·numbers·least least-def.routine
-    code.calls-steps·numbers·least (least-thm.met 𝓤 H 𝓜 𝓖 𝓡))
-    (cited 𝓤 H (BlankEntry 𝓤 H (𝓖 .A) (𝓜 .mem) (𝓡 .run)) 𝓜 𝓡 code.env #steps·entries·blank-entry blank-entry-def.routine
-    code.calls-steps·entries·blank-entry (blank-entry-thm.met 𝓤 H 𝓜 𝓖 𝓡)))
+    (cited 𝓤 H (Least 𝓤 H (𝓖 .A) (𝓜 .mem) (𝓡 .run)) 𝓜 𝓡 code.env #standing·numbers·least least-def.routine
+    code.calls-standing·numbers·least (least-thm.met 𝓤 H 𝓜 𝓖 𝓡))
+    (cited 𝓤 H (BlankEntry 𝓤 H (𝓖 .A) (𝓜 .mem) (𝓡 .run)) 𝓜 𝓡 code.env #standing·entries·blank-entry blank-entry-def.routine
+    code.calls-standing·entries·blank-entry (blank-entry-thm.met 𝓤 H 𝓜 𝓖 𝓡)))

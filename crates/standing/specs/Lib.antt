@@ -1,0 +1,6 @@
+-- Document 01, "Sessions": the waiting list, and when a record and a list are sound.
+pub mod Lists
+pub mod Soundness
+pub mod Promises
+-- What the inner functions say: nothing that needs to be believed.
+pub mod Searching
