@@ -6,9 +6,6 @@ pub mod Deciding
 pub mod Determined
 pub mod FinishWithdraw
 pub mod Lent
-pub mod LentLocals
-pub mod LineLoans
-pub mod LineWalk
 pub mod ListCalls
 pub mod Locals
 pub mod Looking

@@ -1,9 +1,9 @@
 // A record and a list of 64 entries held by value, and the calls on them: what a program keeps that lends nothing itself.
 ghost use Rattle.steps.specs.Calling.{Opens, Asks, Finishes, Withdraws};
-use crate::calls::ask;
-use crate::calls::finish;
-use crate::calls::open;
-use crate::calls::withdraw;
+use session::calls::ask;
+use session::calls::finish;
+use session::calls::open;
+use session::calls::withdraw;
 use standing::entries::Entry;
 use standing::numbers::Terminal;
 use standing::records::Session;

@@ -40,31 +40,31 @@ use Rattle.standing.specs.declared.records.Session.{Session}
 use Rattle.standing.specs.declared.entries.Entry.{Entry}
 use Rattle.standing.specs.declared.numbers.Terminal.{Terminal}
 use Rattle.steps.specs.declared.replies.AskReply.{AskReply}
-use Rattle.session.specs.declared.lines.Line.{Line}
-use Rattle.session.specs.declared.lines.LineAsked.{LineAsked}
+use Rattle.lines.specs.declared.held.Line.{Line}
+use Rattle.lines.specs.declared.held.LineAsked.{LineAsked}
 use Rattle.steps.specs.Calling.{Asks}
 use Rattle.standing.proofs.numbers.Terminal as N
 use Rattle.standing.proofs.numbers.Terminal.Laws as N′
 use Rattle.steps.proofs.replies.AskReply as Y
 use Rattle.steps.proofs.replies.AskReply.Laws as Y′
-use Rattle.session.proofs.lines.Line as L
-use Rattle.session.proofs.lines.Line.Laws as L′
-use Rattle.session.proofs.lines.LineAsked as O
-use Rattle.session.proofs.lines.LineAsked.Laws as O′
+use Rattle.lines.proofs.held.Line as L
+use Rattle.lines.proofs.held.Line.Laws as L′
+use Rattle.lines.proofs.held.LineAsked as O
+use Rattle.lines.proofs.held.LineAsked.Laws as O′
 use Rattle.session.proofs.calls.ask as ask
 use Rattle.session.proofs.calls.ask.Symbol as ask-def
 use Rattle.session.proofs.calls.ask.Symbol.{name as #ask}
 use Rattle.session.proofs.calls.ask.Met as ask-thm
 use Rattle.session.proofs.Answers.{Returns, returned}
 use Rattle.session.proofs.Locals.{value-of, field-of, sets, puts, freed}
 use Rattle.session.proofs.Values.{terminal-val, IsSession, IsTerminal, typed-session, typed-terminal}
 use Rattle.session.proofs.Deciding.{at-name, name-val, Shows, Named}
-use Rattle.session.proofs.LentLocals.{at-local, prepared, by-ending}
-use Rattle.session.proofs.LineLoans.{IsEntries, line-val, IsLine, line-session, line-list, typed-line, typed-entries, Loans, Cells, Alive, References, Kept, Fits, line-left, is-line-left, Back, lends-both, hands-both, both-back}
-use Rattle.session.proofs.lines.ask_line.Key.{name as #ask-line}
-use Rattle.session.proofs.lines.ask_line as ask-line
-use Rattle.session.proofs.lines.ask_line.Statement as stated
-use Rattle.session.proofs.lines.ask_line.Code as code
+use Rattle.lines.proofs.LentLocals.{at-local, prepared, by-ending}
+use Rattle.lines.proofs.LineLoans.{IsEntries, line-val, IsLine, line-session, line-list, typed-line, typed-entries, Loans, Cells, Alive, References, Kept, Fits, line-left, is-line-left, Back, lends-both, hands-both, both-back}
+use Rattle.lines.proofs.held.ask_line.Key.{name as #ask-line}
+use Rattle.lines.proofs.held.ask_line as ask-line
+use Rattle.lines.proofs.held.ask_line.Statement as stated
+use Rattle.lines.proofs.held.ask_line.Code as code
 
 abbrev reply-val : AskReply → Val
 reply-val = EL.val Y.the-type Y′.the-laws

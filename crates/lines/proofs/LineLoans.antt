@@ -21,16 +21,16 @@ use denote.Steps.{heard, nothing}
 use denote.Struct.Laws as LL
 use Rattle.standing.specs.declared.records.Session.{Session}
 use Rattle.standing.specs.declared.entries.Entry.{Entry}
-use Rattle.session.specs.declared.lines.Line.{Line}
+use Rattle.lines.specs.declared.held.Line.{Line}
 use Rattle.standing.proofs.records.Session as S
 use Rattle.standing.proofs.records.Session.Laws as S′
 use Rattle.standing.proofs.entries.Entry as E
 use Rattle.standing.proofs.entries.Entry.Laws as E′
-use Rattle.session.proofs.lines.Line as L
-use Rattle.session.proofs.lines.Line.Laws as L′
+use Rattle.lines.proofs.held.Line as L
+use Rattle.lines.proofs.held.Line.Laws as L′
 use Rattle.session.proofs.Records.{Holds}
 use Rattle.session.proofs.Values.{session-val, IsSession}
-use Rattle.session.proofs.LentLocals.{at-local, Owed, OwedList, array-val, IsArray, lends-local, local-back, lends-array, array-back}
+use Rattle.lines.proofs.LentLocals.{at-local, Owed, OwedList, array-val, IsArray, lends-local, local-back, lends-array, array-back}
 
 -- the list of a line
 abbrev pub entries-mir : Ty

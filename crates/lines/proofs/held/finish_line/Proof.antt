@@ -11,25 +11,25 @@ use denote.Enum.Laws as EL
 use denote.Triple.Spec.{tripleOf}
 use denote.Triple.Table.{entered, cited}
 use Rattle.steps.specs.declared.replies.FinishReply.{FinishReply}
-use Rattle.session.specs.declared.lines.Line.{Line}
-use Rattle.session.specs.declared.lines.LineFinished.{LineFinished}
+use Rattle.lines.specs.declared.held.Line.{Line}
+use Rattle.lines.specs.declared.held.LineFinished.{LineFinished}
 use Rattle.steps.specs.Calling.{Finishes}
 use Rattle.standing.proofs.numbers.Terminal as N
 use Rattle.standing.proofs.numbers.Terminal.Laws as N′
 use Rattle.steps.proofs.replies.FinishReply as Y
 use Rattle.steps.proofs.replies.FinishReply.Laws as Y′
-use Rattle.session.proofs.lines.LineFinished as O
-use Rattle.session.proofs.lines.LineFinished.Laws as O′
+use Rattle.lines.proofs.held.LineFinished as O
+use Rattle.lines.proofs.held.LineFinished.Laws as O′
 use Rattle.session.proofs.calls.finish.Symbol as call-def
 use Rattle.session.proofs.calls.finish.Symbol.{name as #finish}
 use Rattle.session.proofs.calls.finish.Met as call-thm
 use Rattle.session.proofs.Values.{terminal-val, typed-terminal}
-use Rattle.session.proofs.LineLoans.{IsLine}
-use Rattle.session.proofs.LineWalk.{Lined, Known, CallSays, lined-meets}
-use Rattle.session.proofs.lines.finish_line.Key.{name as #finish-line}
-use Rattle.session.proofs.lines.finish_line as finish-line
-use Rattle.session.proofs.lines.finish_line.Statement as stated
-use Rattle.session.proofs.lines.finish_line.Code as code
+use Rattle.lines.proofs.LineLoans.{IsLine}
+use Rattle.lines.proofs.LineWalk.{Lined, Known, CallSays, lined-meets}
+use Rattle.lines.proofs.held.finish_line.Key.{name as #finish-line}
+use Rattle.lines.proofs.held.finish_line as finish-line
+use Rattle.lines.proofs.held.finish_line.Statement as stated
+use Rattle.lines.proofs.held.finish_line.Code as code
 
 -- what is returned
 abbrev out : FinishReply → Line → LineFinished

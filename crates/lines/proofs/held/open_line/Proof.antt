@@ -11,25 +11,25 @@ use denote.Enum.Laws as EL
 use denote.Triple.Spec.{tripleOf}
 use denote.Triple.Table.{entered, cited}
 use Rattle.steps.specs.declared.replies.OpenReply.{OpenReply}
-use Rattle.session.specs.declared.lines.Line.{Line}
-use Rattle.session.specs.declared.lines.LineOpened.{LineOpened}
+use Rattle.lines.specs.declared.held.Line.{Line}
+use Rattle.lines.specs.declared.held.LineOpened.{LineOpened}
 use Rattle.steps.specs.Calling.{Opens}
 use Rattle.table.proofs.cells.Table as B
 use Rattle.table.proofs.cells.Table.Laws as B′
 use Rattle.steps.proofs.replies.OpenReply as Y
 use Rattle.steps.proofs.replies.OpenReply.Laws as Y′
-use Rattle.session.proofs.lines.LineOpened as O
-use Rattle.session.proofs.lines.LineOpened.Laws as O′
+use Rattle.lines.proofs.held.LineOpened as O
+use Rattle.lines.proofs.held.LineOpened.Laws as O′
 use Rattle.session.proofs.calls.open.Symbol as call-def
 use Rattle.session.proofs.calls.open.Symbol.{name as #open}
 use Rattle.session.proofs.calls.open.Met as call-thm
 use Rattle.session.proofs.Values.{table-val, typed-table}
-use Rattle.session.proofs.LineLoans.{IsLine}
-use Rattle.session.proofs.LineWalk.{Lined, Known, CallSays, lined-meets}
-use Rattle.session.proofs.lines.open_line.Key.{name as #open-line}
-use Rattle.session.proofs.lines.open_line as open-line
-use Rattle.session.proofs.lines.open_line.Statement as stated
-use Rattle.session.proofs.lines.open_line.Code as code
+use Rattle.lines.proofs.LineLoans.{IsLine}
+use Rattle.lines.proofs.LineWalk.{Lined, Known, CallSays, lined-meets}
+use Rattle.lines.proofs.held.open_line.Key.{name as #open-line}
+use Rattle.lines.proofs.held.open_line as open-line
+use Rattle.lines.proofs.held.open_line.Statement as stated
+use Rattle.lines.proofs.held.open_line.Code as code
 
 -- what is returned
 abbrev out : OpenReply → Line → LineOpened

@@ -11,25 +11,25 @@ use denote.Enum.Laws as EL
 use denote.Triple.Spec.{tripleOf}
 use denote.Triple.Table.{entered, cited}
 use Rattle.steps.specs.declared.replies.WithdrawReply.{WithdrawReply}
-use Rattle.session.specs.declared.lines.Line.{Line}
-use Rattle.session.specs.declared.lines.LineWithdrawn.{LineWithdrawn}
+use Rattle.lines.specs.declared.held.Line.{Line}
+use Rattle.lines.specs.declared.held.LineWithdrawn.{LineWithdrawn}
 use Rattle.steps.specs.Calling.{Withdraws}
 use Rattle.standing.proofs.numbers.Terminal as N
 use Rattle.standing.proofs.numbers.Terminal.Laws as N′
 use Rattle.steps.proofs.replies.WithdrawReply as Y
 use Rattle.steps.proofs.replies.WithdrawReply.Laws as Y′
-use Rattle.session.proofs.lines.LineWithdrawn as O
-use Rattle.session.proofs.lines.LineWithdrawn.Laws as O′
+use Rattle.lines.proofs.held.LineWithdrawn as O
+use Rattle.lines.proofs.held.LineWithdrawn.Laws as O′
 use Rattle.session.proofs.calls.withdraw.Symbol as call-def
 use Rattle.session.proofs.calls.withdraw.Symbol.{name as #withdraw}
 use Rattle.session.proofs.calls.withdraw.Met as call-thm
 use Rattle.session.proofs.Values.{terminal-val, typed-terminal}
-use Rattle.session.proofs.LineLoans.{IsLine}
-use Rattle.session.proofs.LineWalk.{Lined, Known, CallSays, lined-meets}
-use Rattle.session.proofs.lines.withdraw_line.Key.{name as #withdraw-line}
-use Rattle.session.proofs.lines.withdraw_line as withdraw-line
-use Rattle.session.proofs.lines.withdraw_line.Statement as stated
-use Rattle.session.proofs.lines.withdraw_line.Code as code
+use Rattle.lines.proofs.LineLoans.{IsLine}
+use Rattle.lines.proofs.LineWalk.{Lined, Known, CallSays, lined-meets}
+use Rattle.lines.proofs.held.withdraw_line.Key.{name as #withdraw-line}
+use Rattle.lines.proofs.held.withdraw_line as withdraw-line
+use Rattle.lines.proofs.held.withdraw_line.Statement as stated
+use Rattle.lines.proofs.held.withdraw_line.Code as code
 
 -- what is returned
 abbrev out : WithdrawReply → Line → LineWithdrawn

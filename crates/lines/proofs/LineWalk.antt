@@ -36,17 +36,17 @@ use denote.Triple.Walked.{says, Stays, stay-dropped, walkOf, AllGo, goes-dropped
 use denote.Exit.{yes, Last, left}
 use Rattle.standing.specs.declared.records.Session.{Session}
 use Rattle.standing.specs.declared.entries.Entry.{Entry}
-use Rattle.session.specs.declared.lines.Line.{Line}
+use Rattle.lines.specs.declared.held.Line.{Line}
 use Rattle.standing.proofs.records.Session as S
 use Rattle.standing.proofs.records.Session.Laws as S′
 use Rattle.standing.proofs.entries.Entry as E
-use Rattle.session.proofs.lines.Line as L
-use Rattle.session.proofs.lines.Line.Laws as L′
+use Rattle.lines.proofs.held.Line as L
+use Rattle.lines.proofs.held.Line.Laws as L′
 use Rattle.session.proofs.Answers.{Returns, returned}
 use Rattle.session.proofs.Locals.{value-of, field-of, sets, puts, freed}
 use Rattle.session.proofs.Values.{IsSession, typed-session}
-use Rattle.session.proofs.LentLocals.{at-local, prepared, by-ending}
-use Rattle.session.proofs.LineLoans.{entries-mir, IsEntries, line-val, IsLine, line-session, line-list, typed-line, typed-entries, Loans, Cells, Alive, References, Kept, Fits, line-left, is-line-left, Back, lends-both, hands-both, both-back}
+use Rattle.lines.proofs.LentLocals.{at-local, prepared, by-ending}
+use Rattle.lines.proofs.LineLoans.{entries-mir, IsEntries, line-val, IsLine, line-session, line-list, typed-line, typed-entries, Loans, Cells, Alive, References, Kept, Fits, line-left, is-line-left, Back, lends-both, hands-both, both-back}
 
 -- what the three differ in
 pub record Lined : Type 2 where
