@@ -1,5 +1,5 @@
--- What each public function answers is determined: two answers that both meet its contract are one, since the contract is an equation with a
--- definition, or says exactly when the answer is true.
+-- What each public function answers is determined: two answers that both meet its contract are one, since the contract is an equation
+-- with a definition, or says exactly when the answer is true.
 use mathlib.Core.Path.{_≡_}
 use mathlib.Core.Bool.{Bool, true}
 use mathlib.Core.List.{List}

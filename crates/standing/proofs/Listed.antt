@@ -5,9 +5,9 @@ use mathlib.Core.Bool.{Bool, true, false, false≢true, not, _&&_, and-eq-true-i
 use mathlib.Core.List.{List, [], _∷_}
 use mathlib.Core.Logic.{_↔_, _≢_, ⊎-elim, inl, inr}
 use Prim.Native.Nat.{ℕ, zero, suc, _<_}
-use native.Mathlib.Nat.{not-suc-le-zero, le-of-suc-le-suc, zero-lt-suc, suc-inj}
+use native.Mathlib.Nat.{not-suc-le-zero, le-of-suc-le-suc, suc-inj}
 use native.Mathlib.Omega.{arith}
-use borrow.Author.Tests.{ltb-true, lt-ltb, not-true, not-false}
+use borrow.Author.Tests.{ltb-true, lt-ltb, not-true}
 use lib.Bits.{bitOr}
 use lib.Dec.{ltb}
 use lib.ListN.{length}

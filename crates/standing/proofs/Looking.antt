@@ -3,7 +3,7 @@
 use mathlib.Core.Path.{_≡_, refl, sym, ap, _∙_}
 use mathlib.Core.Bool.{Bool, true, false, cond, not, _&&_, and-assoc, and-true}
 use mathlib.Core.List.{List, [], _∷_}
-use Prim.Native.Nat.{ℕ, zero, suc, _+_}
+use Prim.Native.Nat.{ℕ, suc, _+_}
 use native.Mathlib.Nat.{zero-add, add-zero, add-suc, suc-add}
 use lib.Bits.{bitOr}
 use lib.Dec.{eqb, ltb}
@@ -21,12 +21,14 @@ abbrev onward : (Entry → Bool) → ℕ → Found → List Entry → Found
 onward test p f [] = f
 onward test p f (e ∷ es) = onward test (suc p) (orHere f (test e) p e) es
 
-own-onward : (p : ℕ) (s : Search) (es : List Entry) → looked p s es .own ≡ onward (λ e. eqb (e .terminal .0) (s .terminal .0)) p (s .own) es
+own-onward : (p : ℕ) (s : Search) (es : List Entry)
+    → looked p s es .own ≡ onward (λ e. eqb (e .terminal .0) (s .terminal .0)) p (s .own) es
 unfolding looked examined
 own-onward p s [] = refl
 own-onward p s (e ∷ es) = own-onward (suc p) (examined s e p) es
 
-first-onward : (p : ℕ) (s : Search) (es : List Entry) → looked p s es .first ≡ onward (λ e. mem (e .operation .0) (s .wanted)) p (s .first) es
+first-onward : (p : ℕ) (s : Search) (es : List Entry)
+    → looked p s es .first ≡ onward (λ e. mem (e .operation .0) (s .wanted)) p (s .first) es
 unfolding looked examined
 first-onward p s [] = refl
 first-onward p s (e ∷ es) = first-onward (suc p) (examined s e p) es
@@ -94,4 +96,5 @@ unfolding looked examined entryFits
 looked-fits p s [] = sym (and-true (s .fits))
 looked-fits p s (e ∷ es) =
     looked-fits (suc p) (examined s e p) es
-    ∙ and-assoc (s .fits) (fitsAmong (s .names) (s .barred) (s .taken) e) (allFit (s .names) (s .barred) (bitOr (s .taken) (bitOf (e .terminal .0))) es)
+    ∙ and-assoc (s .fits) (fitsAmong (s .names) (s .barred) (s .taken) e)
+    (allFit (s .names) (s .barred) (bitOr (s .taken) (bitOf (e .terminal .0))) es)

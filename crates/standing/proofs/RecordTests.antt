@@ -1,9 +1,9 @@
 -- The tests of a record decide its soundness, clause by clause.
 use mathlib.Core.Path.{_≡_, refl, sym, ap, subst, _∙_}
-use mathlib.Core.Bool.{Bool, true, false, _&&_, and-eq-true-iff}
+use mathlib.Core.Bool.{Bool, true, _&&_, and-eq-true-iff}
 use mathlib.Core.List.{List}
 use mathlib.Core.Logic.{_↔_}
-use Prim.Native.Nat.{ℕ, _^_, _<_, _≤_}
+use Prim.Native.Nat.{ℕ, _<_}
 use native.Mathlib.Omega.{arith}
 use borrow.Author.Tests.{ltb-true, lt-ltb, leb-true, le-leb}
 use lib.Dec.{ltb, leb}
@@ -23,7 +23,7 @@ use Rattle.standing.specs.declared.records.State.the-variants.{Free, Run
 use Rattle.standing.specs.Searching.{soleIn, stateFits, operationsIn, operationsBy}
 use Rattle.standing.specs.Soundness.{RecordSound}
 use Rattle.standing.proofs.Meeting.{in-operations, operations-below}
-use Rattle.standing.proofs.Single.{Sole, sole-says}
+use Rattle.standing.proofs.Single.{sole-says}
 use Rattle.standing.proofs.States.{free-not-running, same-runner}
 
 -- while running: what holds of one that runs, where P is what is asked of the set

@@ -1,5 +1,5 @@
 -- Small sets as numbers: a bit that a shift shows, the set of one number, and the operations of a set of positions.
-use mathlib.Core.Path.{_≡_, refl, sym, ap, _∙_}
+use mathlib.Core.Path.{_≡_, refl, ap, _∙_}
 use mathlib.Core.List.{List, [], _∷_, map}
 use Prim.Native.Nat.{ℕ, zero, suc, _^_, _*_, _/_, _%_, _<_, _≤_, min}
 use native.Mathlib.Nat.{one-mul, mod-eq-of-lt, not-suc-le-zero, le-of-suc-le-suc, div-one, pow-succ', pow-zero, div-div-eq-div-mul}

@@ -1,12 +1,12 @@
--- Looking through the entries in use decides the clauses of soundness on the list, where the record is sound: the terminals that no entry may
--- have are the running one and those before it, the operations that none may have are, while free, those that meet the set.
+-- Looking through the entries in use decides the clauses of soundness on the list, where the record is sound: the terminals that no
+-- entry may have are the running one and those before it, the operations that none may have are, while free, those that meet the set.
 use mathlib.Core.Path.{_≡_, refl, sym, ap, subst, _∙_}
 use mathlib.Core.Bool.{Bool, true, false}
 use mathlib.Core.List.{List}
 use mathlib.Core.Logic.{_↔_, _≢_}
 use Prim.Native.Nat.{ℕ, _<_, _≤_}
 use native.Mathlib.Omega.{arith}
-use lib.ListN.{length, getD, take, length-take}
+use lib.ListN.{length, getD, length-take}
 use lib.Seq.{getD-take}
 use Rattle.meaning.specs.Sets.{mem, In}
 use Rattle.meaning.proofs.SetLaws.{mem-none, none-in}
@@ -17,9 +17,9 @@ use Rattle.standing.specs.declared.records.State.{State}
 use Rattle.standing.specs.declared.records.State.the-variants.{Free, Running}
 use Rattle.standing.specs.Lists.{blankEntry, inUse}
 use Rattle.standing.specs.Searching.{barredIn, takenIn, operationsBy, searching, looked}
-use Rattle.standing.specs.Soundness.{RecordSound, Sound, terminalIn, operationIn, meetsSet}
+use Rattle.standing.specs.Soundness.{RecordSound, Sound, terminalIn, operationIn}
 use Rattle.standing.proofs.Listed.{AllFit, all-fit-says}
-use Rattle.standing.proofs.Looking.{allFit, looked-fits}
+use Rattle.standing.proofs.Looking.{looked-fits}
 use Rattle.standing.proofs.Meeting.{in-bit, operation-meets}
 use Rattle.standing.proofs.States.{free-not-running, same-runner}
 
@@ -76,7 +76,8 @@ module _ (s : Session) (l : List Entry) (t : Terminal) (w : ℕ) (long : 64 ≤ 
         operations-exist = exists;
         nobody-permitted = λ e i h.
             unbarred-says (s .state) (operationIn l i) _ _ (operation-meets s (s .set) (operationIn l i) (few _ (exists i h))) .0
-            (subst (λ (o : ℕ). mem o (barredIn (s .state) (operationsBy s (s .set))) ≡ false) (operation-same i h) (f .unbarred i (there i h)))
+            (subst (λ (o : ℕ). mem o (barredIn (s .state) (operationsBy s (s .set))) ≡ false) (operation-same i h)
+            (f .unbarred i (there i h)))
             e;
       }
 

@@ -1,5 +1,5 @@
 -- The two states of a record, told apart.
-use mathlib.Core.Path.{_≡_, ap, sym, _∙_}
+use mathlib.Core.Path.{_≡_, ap, sym}
 use mathlib.Core.Bool.{Bool, true, false, false≢true}
 use Prim.Native.Nat.{ℕ}
 use Rattle.standing.specs.declared.numbers.Terminal.{Terminal}

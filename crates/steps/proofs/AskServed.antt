@@ -1,5 +1,5 @@
 -- An ask by value does what the contract of `ask` says: the tests in number order, then the step of document 01.
-use mathlib.Core.Path.{_≡_, refl, sym, ap, subst, _∙_}
+use mathlib.Core.Path.{_≡_, refl, sym, _∙_}
 use mathlib.Core.Bool.{Bool, true, false, false≢true, cond, _&&_}
 use mathlib.Core.List.{List}
 use mathlib.Core.Logic.{_↔_}
@@ -21,12 +21,11 @@ use Rattle.standing.specs.declared.records.Session.{Session}
 use Rattle.standing.specs.declared.searches.Search.{Search}
 use Rattle.steps.specs.declared.replies.AskReply.the-variants.{Granted, Delayed}
 use Rattle.steps.specs.declared.outcomes.Asked.{Asked}
-use Rattle.steps.specs.Answers.{askAnswer}
 use Rattle.steps.specs.Answers.Answer.{granted, delayed}
 use Rattle.standing.specs.Lists.{inUse, blankEntry}
 use Rattle.standing.specs.Searching.{looking, looked}
 use Rattle.standing.specs.Soundness.{RecordSound, meetsSet}
-use Rattle.steps.specs.Steps.{Outcome, isFree, granting, counting, askStep}
+use Rattle.steps.specs.Steps.{isFree, granting, counting, askStep}
 use Rattle.steps.specs.Refusals.{Row, First, Runs, Waits}
 use Rattle.steps.specs.Refusals.Row.{no-such-operation, ask-by-the-running, ask-by-a-waiting}
 use Rattle.steps.specs.Calling.{Serves, Asks, refusing, entryFor}

@@ -1,15 +1,12 @@
--- What each public function answers is determined: two answers that both meet its contract are one, since the contract is an equation with a
--- definition, or says exactly when the answer is true, or is an equation that depends on this. The calls: CallsDetermined.antt.
+-- What each public function answers is determined: two answers that both meet its contract are one, since the contract is an equation
+-- with a definition, or one that depends on whether something is so. Of the lent calls: CallsDetermined.antt.
 use mathlib.Core.Path.{_≡_, ap, _∙_}
-use mathlib.Core.Bool.{Bool, true}
+use mathlib.Core.Bool.{Bool}
 use mathlib.Core.List.{List}
-use mathlib.Core.Logic.{_↔_}
-use Prim.Native.Nat.{ℕ, min}
-use lib.ListN.{take}
+use Prim.Native.Nat.{ℕ}
 use Rattle.meaning.proofs.SetLaws.{both-decide}
 use Rattle.text.proofs.Determined.{both-equal}
 use Rattle.table.specs.declared.cells.Table.{Table}
-use Rattle.table.specs.declared.numbers.Operation.{Operation}
 use Rattle.standing.specs.declared.numbers.Terminal.{Terminal}
 use Rattle.standing.specs.declared.entries.Entry.{Entry}
 use Rattle.standing.specs.declared.records.Session.{Session}
@@ -19,9 +16,6 @@ use Rattle.steps.specs.declared.outcomes.Opened.{Opened}
 use Rattle.steps.specs.declared.outcomes.Asked.{Asked}
 use Rattle.steps.specs.declared.outcomes.Handed.{Handed}
 use Rattle.steps.specs.declared.outcomes.Withdrawn.{Withdrawn}
-use Rattle.standing.specs.Lists.{blankEntry}
-use Rattle.standing.specs.Searching.{operationsIn, examined, looking, handing}
-use Rattle.standing.specs.Soundness.{RecordSound}
 use Rattle.steps.specs.Steps.{opening}
 use Rattle.steps.specs.Values.{askCore, finishCore, withdrawCore, Decided, OpenedBy, AskedBy, FinishedBy, WithdrawnBy}
 

@@ -1,10 +1,10 @@
 -- A finish by value does what the contract of `finish` says: the tests in number order, then the step of document 01. What the search found
 -- first is the entry that the step picks, since a listed operation is among those of the set exactly if it meets the set.
-use mathlib.Core.Path.{_≡_, refl, sym, ap, subst, _∙_}
+use mathlib.Core.Path.{_≡_, refl, sym, ap, _∙_}
 use mathlib.Core.Bool.{Bool, true, false, false≢true, cond}
 use mathlib.Core.List.{List, [], _∷_}
 use mathlib.Core.Logic.{_↔_}
-use Prim.Native.Nat.{ℕ, zero, suc, _≤_, _<_}
+use Prim.Native.Nat.{ℕ, suc, _≤_, _<_}
 use native.Mathlib.Omega.{arith}
 use lib.ListN.{length, getD}
 use lib.Seq.{getD-take}
@@ -17,11 +17,10 @@ use Rattle.standing.specs.declared.searches.Search.{Search}
 use Rattle.standing.specs.declared.searches.Found.{Found}
 use Rattle.standing.specs.declared.searches.Found.the-variants.{Nobody, At}
 use Rattle.steps.specs.declared.outcomes.Handed.{Handed}
-use Rattle.steps.specs.Answers.{finishAnswer}
-use Rattle.standing.specs.Lists.{blankEntry, inUse, behind, seek, takenOut}
+use Rattle.standing.specs.Lists.{blankEntry, inUse, seek, takenOut}
 use Rattle.standing.specs.Searching.{operationsBy, searching, handing, looked}
 use Rattle.standing.specs.Soundness.{RecordSound, Sound, meetsSet}
-use Rattle.steps.specs.Steps.{Outcome, freed, picked, handOn, finishStep}
+use Rattle.steps.specs.Steps.{freed, picked, handOn, finishStep}
 use Rattle.steps.specs.Refusals.{Row, First}
 use Rattle.steps.specs.Refusals.Row.{finish-by-another}
 use Rattle.steps.specs.Calling.{Serves, Finishes, refusing}

@@ -1,12 +1,12 @@
 -- The tests that every call makes: 8, 9 and 10 are given exactly where their rows apply and none before them; past them, the list is long
 -- enough, record and list are sound and the terminal is one of 64. And who runs and who waits, as the program tests it.
-use mathlib.Core.Path.{_≡_, refl, sym, ap, subst, _∙_}
-use mathlib.Core.Bool.{Bool, true, false, false≢true, and-false}
+use mathlib.Core.Path.{_≡_, refl, sym, ap, _∙_}
+use mathlib.Core.Bool.{Bool, true, false, false≢true}
 use mathlib.Core.List.{List}
 use mathlib.Core.Logic.{_↔_, ⊎-elim}
 use Prim.Native.Nat.{ℕ, _≤_, _<_}
 use native.Mathlib.Omega.{arith}
-use borrow.Author.Tests.{eqb-true, eq-eqb, eqb-false, lt-ltb, le-ltb}
+use borrow.Author.Tests.{eqb-true, eq-eqb, lt-ltb, le-ltb}
 use lib.Dec.{eqb}
 use lib.ListN.{length, getD}
 use lib.Seq.{getD-take}
@@ -63,8 +63,11 @@ module _ (s : Session) (l : List Entry) (t : Terminal) (w : ℕ) where
       rw own-found (
         λ h.
             let i = says .0 h in
-            let there : i .0 < s .waiting = omega (arith, i .1, count) in
-            (i .0, there, ap (λ (e : Entry). e .terminal .0) (sym (getD-take (s .waiting) l (i .0) blankEntry there)) ∙ eqb-true _ _ (i .2)),
+            let there : i .0 < s .waiting = omega (arith, i .1, count) in (
+              i .0,
+              there,
+              ap (λ (e : Entry). e .terminal .0) (sym (getD-take (s .waiting) l (i .0) blankEntry there)) ∙ eqb-true _ _ (i .2),
+            ),
         λ h.
             says .1 (
               h .0,

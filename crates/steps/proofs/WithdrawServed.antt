@@ -1,9 +1,9 @@
 -- A withdrawal by value does what the contract of `withdraw` says: the tests in number order, then the step of document 01.
 use mathlib.Core.Path.{_≡_, refl, sym, ap, _∙_}
-use mathlib.Core.Bool.{Bool, true, false, false≢true}
+use mathlib.Core.Bool.{Bool, true, false≢true}
 use mathlib.Core.List.{List}
 use mathlib.Core.Logic.{_↔_}
-use Prim.Native.Nat.{ℕ, _≤_, _<_}
+use Prim.Native.Nat.{ℕ}
 use native.Mathlib.Omega.{arith}
 use lib.ListN.{length}
 use Rattle.meaning.specs.Calls.Call.{withdraw}
@@ -15,12 +15,11 @@ use Rattle.standing.specs.declared.searches.Waiter.{Waiter}
 use Rattle.standing.specs.declared.searches.Found.{Found}
 use Rattle.standing.specs.declared.searches.Found.the-variants.{Nobody, At}
 use Rattle.steps.specs.declared.outcomes.Withdrawn.{Withdrawn}
-use Rattle.steps.specs.Answers.{withdrawAnswer}
 use Rattle.standing.specs.Lists.{inUse, takenOut}
 use Rattle.standing.specs.Searching.{looking, looked}
 use Rattle.standing.specs.Soundness.{RecordSound}
-use Rattle.steps.specs.Steps.{Outcome, entryOf, takeBack, withdrawStep}
-use Rattle.steps.specs.Refusals.{Row, First, Waits}
+use Rattle.steps.specs.Steps.{entryOf, takeBack, withdrawStep}
+use Rattle.steps.specs.Refusals.{Row, First}
 use Rattle.steps.specs.Refusals.Row.{withdraw-by-another}
 use Rattle.steps.specs.Calling.{Serves, Withdraws, refusing}
 use Rattle.steps.specs.Calling.Serves.{refuses, does}

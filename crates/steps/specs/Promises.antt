@@ -1,5 +1,5 @@
--- What is promised of the steps and the calls beside the contracts (Calling.antt). Each promise is a type here; proofs/ has a proof of each,
--- under the same name in small letters.
+-- What is promised of the steps and the calls beside the contracts (Calling.antt). Each promise is a type here; proofs/ has a proof of
+-- each, under the same name in small letters.
 use mathlib.Core.Path.{_≡_}
 use mathlib.Core.List.{List}
 use Prim.Native.Nat.{ℕ, _≤_, _<_}

@@ -4,8 +4,8 @@ use mathlib.Core.List.{List}
 use Prim.Native.Nat.{ℕ, suc, _-_}
 use lib.Bits.{bitAnd}
 use lib.Dec.{eqb}
-use lib.ListN.{length, set}
-use Rattle.meaning.specs.Sets.{meeting, unionOf}
+use lib.ListN.{set}
+use Rattle.meaning.specs.Sets.{unionOf}
 use Rattle.table.specs.Following.{permissionSet}
 use Rattle.table.specs.declared.cells.Table.{Table}
 use Rattle.standing.specs.declared.entries.Entry.{Entry}

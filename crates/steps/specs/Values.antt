@@ -20,7 +20,6 @@ use Rattle.standing.specs.declared.records.Session.{Session}
 use Rattle.standing.specs.declared.records.State.{State}
 use Rattle.standing.specs.declared.records.State.the-variants.{Free, Running}
 use Rattle.standing.specs.declared.searches.Search.{Search}
-use Rattle.standing.specs.declared.searches.Waiter.{Waiter}
 use Rattle.standing.specs.declared.searches.Found.{Found}
 use Rattle.standing.specs.declared.searches.Found.the-variants.{Nobody, At}
 use Rattle.steps.specs.declared.replies.OpenReply.the-variants.{Opened as Opens, Refused as OpenRefused}

@@ -37,7 +37,8 @@ returns c =
     let a = j .before .args in
     let here = entryFits (a .s) (a .e) in
     let so-far : j .if1 .fits ≡ a .s .fits && here =
-    ⊎-elim (λ w. first-passes here (w .0 .taken) (w .2 ∙ w .1 .ensures)) (λ w. first-fails here (w .0 .left) (w .1 ∙ w .0 .left)) (j .if1 .came) in
+    ⊎-elim (λ w. first-passes here (w .0 .taken) (w .2 ∙ w .1 .ensures)) (λ w. first-fails here (w .0 .left) (w .1 ∙ w .0 .left))
+    (j .if1 .came) in
     rw (
       so-far,
       c .with .ensures,

@@ -15,7 +15,8 @@ use Rattle.standing.proofs.searches.operations_in.Statement.{statement}
 use Rattle.standing.proofs.searches.operations_in.Tie as tie
 
 abbrev Inv-loop : tie.InvT-loop
-Inv-loop positions set operations end out₀ rest₀ p₀ out rest p = Uniting (bitsOf positions operations) (unionOf (bitsOf positions operations) set) out rest p
+Inv-loop positions set operations end out₀ rest₀ p₀ out rest p =
+    Uniting (bitsOf positions operations) (unionOf (bitsOf positions operations) set) out rest p
 
 abbrev μ-loop : tie.MeasureT-loop
 μ-loop positions set operations end out₀ rest₀ p₀ out rest p = end - p

@@ -1,7 +1,7 @@
--- `standing::soundness::record_is_sound` meets its contract: the answer is what the tests say, of which one that fails decides, and the tests
--- decide soundness.
-use mathlib.Core.Path.{_≡_, sym, _∙_}
-use mathlib.Core.Bool.{Bool, true, false, and-false}
+-- `standing::soundness::record_is_sound` meets its contract: the answer is what the tests say, of which one that fails decides, and
+-- the tests decide soundness.
+use mathlib.Core.Path.{_≡_}
+use mathlib.Core.Bool.{Bool, true}
 use mathlib.Core.Logic.{_↔_}
 use borrow.Author.Tests.{not-true, not-false}
 use borrow.Author.Needs.{needs}

@@ -23,7 +23,8 @@ returns-2 c = search needs
 returns-3 : tie.Need-returns-3
 returns-3 c =
     let t = c .before .before .before .before .state .given .0 in
-    rw (c .before .before .before .before .state .given .1, lt-ltb (t .0 .0) 64 (omega (arith, c .before .if1 .left))) (c .is-single .ensures)
+    rw (c .before .before .before .before .state .given .1, lt-ltb (t .0 .0) 64 (omega (arith, c .before .if1 .left)))
+    (c .is-single .ensures)
 
 pub state-fits-spec : {M : Type 1} → statement M
 state-fits-spec =

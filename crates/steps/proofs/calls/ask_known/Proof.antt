@@ -25,7 +25,8 @@ returns-2 : tie.Need-returns-2
 unfolding askKnown
 returns-2 c =
     let i = c .before .before in
-    rw (sym (i .before .before .runs .ensures) ∙ i .before .if1 .left, sym (i .is-found .ensures) ∙ c .before .if2 .taken) (c .not-asked2 .ensures)
+    rw (sym (i .before .before .runs .ensures) ∙ i .before .if1 .left, sym (i .is-found .ensures) ∙ c .before .if2 .taken)
+    (c .not-asked2 .ensures)
 
 ask-step-requires : tie.Need-ask-step-requires
 ask-step-requires c κs = search needs
@@ -34,7 +35,8 @@ returns-3 : tie.Need-returns-3
 unfolding askKnown
 returns-3 c =
     let i = c .before .before in
-    rw (sym (i .before .before .runs .ensures) ∙ i .before .if1 .left, sym (i .is-found .ensures) ∙ c .before .if2 .left) (c .ask-step .ensures)
+    rw (sym (i .before .before .runs .ensures) ∙ i .before .if1 .left, sym (i .is-found .ensures) ∙ c .before .if2 .left)
+    (c .ask-step .ensures)
 
 pub ask-known-spec : {M : Type 1} → statement M
 ask-known-spec =

@@ -34,13 +34,23 @@ returns-2 : tie.Need-returns-2
 unfolding withdrawValue
 returns-2 c =
     let f = c .before .before .before .before .refusal .ensures in
-    record { sound = f .sound; says = f .says; is = rw (sym (f .is), eq-eqb _ 0 (c .before .before .before .if1 .left), c .before .enum-told .given .1) (c .not-withdrawn2 .ensures) }
+    record {
+      sound = f .sound;
+      says = f .says;
+      is = rw (sym (f .is), eq-eqb _ 0 (c .before .before .before .if1 .left), c .before .enum-told .given .1)
+          (c .not-withdrawn2 .ensures);
+    }
 
 returns-3 : tie.Need-returns-3
 unfolding withdrawValue
 returns-3 c =
     let f = c .before .before .before .before .before .refusal .ensures in
-    record { sound = f .sound; says = f .says; is = rw (sym (f .is), eq-eqb _ 0 (c .before .before .before .before .if1 .left), c .before .before .own .given .1) (c .withdraw-step .ensures) }
+    record {
+      sound = f .sound;
+      says = f .says;
+      is = rw (sym (f .is), eq-eqb _ 0 (c .before .before .before .before .if1 .left), c .before .before .own .given .1)
+          (c .withdraw-step .ensures);
+    }
 
 pub withdrawn-spec : {M : Type 1} → statement M
 withdrawn-spec =
