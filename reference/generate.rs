@@ -10,6 +10,10 @@ impl Dice {
         self.0 ^= self.0 << 17;
         (self.0 >> 11) % n
     }
+
+    fn all_bits(&mut self) -> u64 {
+        self.roll(1 << 32) << 32 | self.roll(1 << 32)
+    }
 }
 
 fn part(d: &mut Dice, depth: u64, names: u64, left: &mut u64, out: &mut String) {
@@ -32,6 +36,13 @@ fn part(d: &mut Dice, depth: u64, names: u64, left: &mut u64, out: &mut String) 
     }
 }
 
+// 64 positions of 32 names, of 16 bytes some of them; one after the other, or any of them.
+fn largest(between: &str) -> String {
+    let name = |i: usize| if i % 32 % 3 == 0 { format!("LongestNameOf{:03}", i % 32) } else { format!("n{}", i % 32) };
+    let names: Vec<String> = (0..64).map(name).collect();
+    format!("path {} end", names.join(between))
+}
+
 fn path(d: &mut Dice) -> String {
     const PATHS: [&str; 8] = [
         "path (inject exclude)* count end",
@@ -43,66 +54,99 @@ fn path(d: &mut Dice) -> String {
         "path a (b + b (a b)*) end",
         "path a + end",
     ];
-    if d.roll(2) == 0 {
-        return PATHS[d.roll(8) as usize].to_string();
+    match d.roll(8) {
+        0 => largest(" "),
+        1 => largest(" + "),
+        2..=4 => PATHS[d.roll(8) as usize].to_string(),
+        _ => {
+            let mut out = String::from("path ");
+            let (depth, names) = (d.roll(5), 1 + d.roll(34));
+            let mut left = 1 + d.roll(80);
+            part(d, depth, names, &mut left, &mut out);
+            out.push_str(" end");
+            out
+        }
     }
-    let mut out = String::from("path ");
-    let (depth, names) = (d.roll(4), 1 + d.roll(6));
-    let mut left = 1 + d.roll(20);
-    part(d, depth, names, &mut left, &mut out);
-    out.push_str(" end");
-    out
+}
+
+fn damage(d: &mut Dice) -> String {
+    let kind = d.roll(14);
+    let at = if kind == 10 { d.roll(514) } else { d.roll(66) };
+    let value = match d.roll(4) {
+        0 => d.roll(4),
+        1 => d.roll(70),
+        2 => d.all_bits(),
+        _ => 1 << d.roll(64),
+    };
+    format!("d {kind} {at} {value}")
+}
+
+fn name(d: &mut Dice, line: &Line) -> String {
+    let table = &line.session.table;
+    match d.roll(20) {
+        0 => "nobody".to_string(),
+        1 => String::new(),
+        _ if table.names == 0 || table.names > 32 => "a".to_string(),
+        _ => String::from_utf8_lossy(table.name(d.roll(table.names as u64) as usize)).to_string(),
+    }
+}
+
+// One line of a script: asks most of the time while the list fills.
+fn one(d: &mut Dice, line: &Line, terminals: u64, filling: bool) -> String {
+    let runner = line.session.running.filter(|_| d.roll(3) > 0).map_or(d.roll(terminals), |t| t as u64);
+    match d.roll(40) {
+        0 => format!("p {}", path(d)),
+        1 => ["o", "s", "s"][d.roll(3) as usize].to_string(),
+        2 => damage(d),
+        3..=20 => format!("a {} {}", d.roll(terminals), name(d, line)),
+        21..=32 if filling => format!("a {} {}", d.roll(terminals), name(d, line)),
+        21..=32 => format!("f {runner}"),
+        33..=36 => format!("w {}", d.roll(terminals)),
+        _ => "s".to_string(),
+    }
 }
 
 pub fn generate(seed: u64, lines: u64) -> String {
     let mut d = Dice(seed.wrapping_mul(0x9E3779B97F4A7C15) | 1);
+    let mut line = Line::nothing();
     let mut out = String::new();
-    let mut script = Line::nothing();
-    let few = [3, 6, 64, 70][d.roll(4) as usize];
+    let terminals = [3, 6, 64, 70][d.roll(4) as usize];
     for i in 0..lines {
-        let s = &script.session;
-        let known: Vec<String> =
-            (0..s.table.names.min(32)).map(|o| String::from_utf8_lossy(s.table.name(o)).to_string()).collect();
-        let terminal = match s.running {
-            Some(t) if d.roll(3) > 0 => t as u64,
-            _ => d.roll(few),
-        };
-        let line = match d.roll(40) {
-            _ if i == 0 => format!("p {}", path(&mut d)),
-            0 => format!("p {}", path(&mut d)),
-            1 if d.roll(3) == 0 => "o".to_string(),
-            2 => {
-                let value = match d.roll(4) {
-                    0 => d.roll(4),
-                    1 => d.roll(70),
-                    2 => d.roll(u64::MAX),
-                    _ => 1 << d.roll(64),
-                };
-                format!("d {} {} {}", d.roll(14), d.roll(66), value)
-            }
-            3..=20 => {
-                let name = match d.roll(20) {
-                    0 => "nobody".to_string(),
-                    1 => String::new(),
-                    _ if known.is_empty() => "a".to_string(),
-                    _ => known[d.roll(known.len() as u64) as usize].clone(),
-                };
-                format!("a {} {}", d.roll(few), name)
-            }
-            21..=32 => format!("f {terminal}"),
-            33..=36 => format!("w {}", d.roll(few)),
-            _ => "s".to_string(),
-        };
-        script.turn(line.as_bytes(), &mut String::new());
+        let mut text = if i == 0 { format!("p {}", path(&mut d)) } else { one(&mut d, &line, terminals, i / 50 % 2 == 0) };
+        line.turn(text.as_bytes(), &mut String::new());
         // a record that calls refuse as unsound is soon opened anew
-        if !script.session.sound(&script.list) && d.roll(4) == 0 {
+        if !line.session.sound(&line.list) && d.roll(4) == 0 {
             let fresh = format!("p {}", path(&mut d));
-            script.turn(fresh.as_bytes(), &mut String::new());
-            out.push_str(&format!("{line}\n{fresh}\n"));
-        } else {
-            out.push_str(&format!("{line}\n"));
+            line.turn(fresh.as_bytes(), &mut String::new());
+            text = format!("{text}\n{fresh}");
         }
+        out.push_str(&text);
+        out.push('\n');
     }
     out.push_str("s\n");
+    out
+}
+
+// The largest path, every terminal asking for its turn, and each that finishes asking again.
+pub fn busy(lines: u64) -> String {
+    let mut line = Line::nothing();
+    let mut out = String::new();
+    let mut say = |line: &mut Line, text: String| {
+        line.turn(text.as_bytes(), &mut String::new());
+        out.push_str(&text);
+        out.push('\n');
+    };
+    say(&mut line, format!("p {}", largest(" ")));
+    let name = |line: &Line, o: usize| String::from_utf8_lossy(line.session.table.name(o % 32)).to_string();
+    for t in 0..64 {
+        let text = format!("a {t} {}", name(&line, t));
+        say(&mut line, text);
+    }
+    for i in 0..lines {
+        let Some(runner) = line.session.running else { break };
+        say(&mut line, format!("f {runner}"));
+        let text = format!("a {runner} {}", name(&line, (i as usize) + 31));
+        say(&mut line, text);
+    }
     out
 }

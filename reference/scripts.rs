@@ -1,6 +1,6 @@
 // Scripts of calls, and what their lines give.
 use crate::paths::compile;
-use crate::session::{Entry, Reply, Session, NOBODY};
+use crate::session::{Entry, Reply, Session, BLANK};
 use crate::table::ZEROS;
 
 pub struct Line {
@@ -28,7 +28,7 @@ fn rest(line: &[u8], from: usize) -> &[u8] {
 impl Line {
     // Nothing opened, nobody waiting.
     pub fn nothing() -> Line {
-        Line { session: Session { table: ZEROS, set: 0, running: None, waiting: 0 }, list: [NOBODY; 64] }
+        Line { session: Session { table: ZEROS, set: 0, running: None, waiting: 0 }, list: [BLANK; 64] }
     }
 
     // One cell gets a value, which need not be one that it may have.

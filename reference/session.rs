@@ -1,5 +1,9 @@
 // The session: one record, one list, four calls.
 use crate::table::Table;
+use std::sync::atomic::{AtomicBool, Ordering::Relaxed};
+
+// Whether the test is made in one pass, for the comparison of times.
+pub static FAST: AtomicBool = AtomicBool::new(false);
 
 #[derive(Clone, Copy)]
 pub struct Entry {
@@ -7,7 +11,7 @@ pub struct Entry {
     pub operation: u8,
 }
 
-pub const NOBODY: Entry = Entry { terminal: 0, operation: 0 };
+pub const BLANK: Entry = Entry { terminal: 0, operation: 0 };
 
 #[derive(Clone, Copy)]
 pub struct Session {
@@ -28,6 +32,27 @@ pub enum Reply {
 }
 
 impl Session {
+    // "A record and list are sound if ..", clause by clause.
+    fn sound_by_clauses(&self, list: &[Entry]) -> bool {
+        let t = &self.table;
+        if !t.sound() || !t.fits(self.set) || self.waiting > 64 {
+            return false;
+        }
+        let listed = &list[..self.waiting];
+        let runs_well = match self.running {
+            None => true,
+            Some(r) => r < 64 && (0..t.names).any(|o| self.set & !t.permission(o as u8) == 0),
+        };
+        runs_well
+            && listed.iter().enumerate().all(|(i, e)| {
+                e.terminal < 64
+                    && listed[..i].iter().all(|d| d.terminal != e.terminal)
+                    && self.running != Some(e.terminal)
+                    && (e.operation as usize) < t.names
+                    && (self.running.is_some() || self.set & t.permission(e.operation) == 0)
+            })
+    }
+
     // The operations of the set's positions, as bits.
     fn operations(&self, set: u64) -> u64 {
         let mut rest = set;
@@ -42,7 +67,8 @@ impl Session {
         out
     }
 
-    pub fn sound(&self, list: &[Entry]) -> bool {
+    // The same in one pass, for the comparison of times.
+    fn sound_in_one_pass(&self, list: &[Entry]) -> bool {
         if !self.table.sound() || !self.table.fits(self.set) || self.waiting > 64 {
             return false;
         }
@@ -65,6 +91,15 @@ impl Session {
         true
     }
 
+    pub fn sound(&self, list: &[Entry]) -> bool {
+        if FAST.load(Relaxed) {
+            return self.sound_in_one_pass(list);
+        }
+        let sound = self.sound_by_clauses(list);
+        assert_eq!(sound, self.sound_in_one_pass(list));
+        sound
+    }
+
     fn refused(&self, list: &[Entry], terminal: u16) -> Option<Reply> {
         if list.len() < 64 {
             Some(Reply::Refused(8))
@@ -84,7 +119,7 @@ impl Session {
     fn take_out(&mut self, list: &mut [Entry], at: usize) {
         list.copy_within(at + 1..self.waiting, at);
         self.waiting -= 1;
-        list[self.waiting] = NOBODY;
+        list[self.waiting] = BLANK;
     }
 
     pub fn open(&mut self, list: &mut [Entry], table: Table) -> Reply {
@@ -95,7 +130,7 @@ impl Session {
             return Reply::Refused(9);
         }
         *self = Session { table, set: table.start, running: None, waiting: 0 };
-        list[..64].fill(NOBODY);
+        list[..64].fill(BLANK);
         Reply::Opened
     }
 
@@ -135,8 +170,13 @@ impl Session {
             rest &= rest - 1;
         }
         self.set = union;
-        let open = self.operations(union);
-        match list[..self.waiting].iter().position(|e| open >> e.operation & 1 == 1) {
+        let found = if FAST.load(Relaxed) {
+            let open = self.operations(union);
+            list[..self.waiting].iter().position(|e| open >> e.operation & 1 == 1)
+        } else {
+            list[..self.waiting].iter().position(|e| self.table.permission(e.operation) & union != 0)
+        };
+        match found {
             None => {
                 self.running = None;
                 Reply::Finished(self.waiting, None)

@@ -2,3 +2,4 @@
 pub mod LentLocals
 pub mod LineLoans
 pub mod LineWalk
+pub mod Determined

@@ -1,0 +1,1 @@
+-- The contracts are those of `steps` (its specs/Calling.antt), of a line's record and list.

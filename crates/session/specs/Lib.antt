@@ -1,0 +1,1 @@
+-- The contracts of the calls are those of `steps` (its specs/Calling.antt), of the list functions those of `standing` (specs/Lists.antt).

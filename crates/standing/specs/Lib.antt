@@ -2,5 +2,5 @@
 pub mod Lists
 pub mod Soundness
 pub mod Promises
--- What the inner functions say: nothing that needs to be believed.
+-- What the inner functions say.
 pub mod Searching

@@ -2,7 +2,7 @@
 use mathlib.Core.Bool.{Bool, cond}
 use mathlib.Core.List.{List, [], _∷_}
 use Prim.Native.Nat.{ℕ, zero, suc}
-use lib.ListN.{length, take}
+use lib.ListN.{length, set, take}
 use Rattle.standing.specs.declared.entries.Entry.{Entry}
 use Rattle.standing.specs.declared.records.Session.{Session}
 use Rattle.standing.specs.declared.searches.Found.{Found}
@@ -26,6 +26,10 @@ blanked (suc n) (e ∷ l) = blankEntry ∷ blanked n l
 abbrev pub placeOf : List Entry → Entry → ℕ
 placeOf used e = length used
 
+-- the entry is put at place p: at the end, where no other has to move
+abbrev pub putAt : ℕ → Entry → List Entry → List Entry
+putAt p e l = set l p e
+
 -- n entries move up by one, over one that is gone, and the place of the last becomes blank
 unfoldable pub movedUp : ℕ → List Entry → List Entry
 movedUp zero l = blankEntry ∷ l
@@ -39,11 +43,12 @@ takenOut (suc n) p [] = []
 takenOut (suc n) zero (e ∷ l) = movedUp n l
 takenOut (suc n) (suc p) (e ∷ l) = e ∷ takenOut n p l
 
--- the first entry that passes a test, with its place
+-- what was found among the entries behind one
 abbrev pub behind : Found → Found
 behind Nobody = Nobody
 behind (At w) = At (record { place = suc (w .place); entry = w .entry })
 
+-- the first entry that passes a test, with its place
 unfoldable pub seek : (Entry → Bool) → List Entry → Found
 seek test [] = Nobody
 seek test (e ∷ es) = cond (test e) (At (record { place = 0; entry = e })) (behind (seek test es))

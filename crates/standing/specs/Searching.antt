@@ -1,5 +1,4 @@
--- Looking through the list once, an entry at a time: what the inner functions say. Nothing here needs to be believed: the contracts of
--- the calls (Calling.antt) do not speak of it.
+-- Looking through the list once, an entry at a time: what the inner functions say. The contracts of the calls do not speak of it.
 use mathlib.Core.Bool.{Bool, true, false, cond, not, _&&_}
 use mathlib.Core.List.{List, [], _∷_, map}
 use Prim.Native.Nat.{ℕ, zero, suc, _^_, _/_}

@@ -39,7 +39,7 @@ pub struct Search {
     pub fits: bool,
     // the first entry of the terminal
     pub own: Found,
-    // the first entry of an open operation
+    // the first entry of a wanted operation
     pub first: Found,
 }
 

@@ -25,7 +25,7 @@ use Rattle.steps.proofs.StepsKeep.{open-step-sound, ask-step-keeps, fin
 opens-sound : (t : Table) (l : List Entry) → None (OpenRow t l) → SoundAfter (openStep t l)
 opens-sound t l none =
     let long : ¬ (length l < 64) = λ short. none 8 (short-for-opening short) in
-    open-step-sound t l (omega arith) (table-stable t (λ unsound. none 9 (unsound-table unsound)))
+    open-step-sound t l (table-stable t (λ unsound. none 9 (unsound-table unsound)))
 
 pub open-keeps : Open-keeps
 open-keeps s s′ l l′ t r opens sound = served SoundAfter opens (λ m. sound) (opens-sound t l)

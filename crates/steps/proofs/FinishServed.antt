@@ -6,7 +6,7 @@ use mathlib.Core.List.{List, [], _∷_}
 use mathlib.Core.Logic.{_↔_}
 use Prim.Native.Nat.{ℕ, suc, _≤_, _<_}
 use native.Mathlib.Omega.{arith}
-use lib.ListN.{length, getD}
+use lib.ListN.{length, getD, length-take}
 use lib.Seq.{getD-take}
 use Rattle.meaning.specs.Sets.{mem, unionOf}
 use Rattle.meaning.specs.Calls.Call.{finish}
@@ -25,7 +25,7 @@ use Rattle.steps.specs.Refusals.{Row, First}
 use Rattle.steps.specs.Refusals.Row.{finish-by-another}
 use Rattle.steps.specs.Calling.{Serves, Finishes, refusing}
 use Rattle.steps.specs.Calling.Serves.{refuses, does}
-use Rattle.steps.specs.Promises.{Finish-core-is-step}
+use Rattle.steps.specs.Promises.{Finish-core-is-step, Looking-finds-picked}
 use Rattle.steps.specs.Values.{finishOutcome, runsIn, notFinished, handCore, finishCore, finishValue, FinishedBy}
 use Rattle.steps.proofs.AskServed.{one-more}
 use Rattle.standing.proofs.Looking.{looked-first}
@@ -55,6 +55,13 @@ unfolding takenOut
 handed-on s l test Nobody finds few = refl
 handed-on s l test (At w) finds few = rw (one-more (w .place) (omega (arith, finds .there, few)))
 
+-- the core step is the step
+pub finish-core-is-step : Finish-core-is-step
+unfolding finishCore finishStep picked
+finish-core-is-step s l long d =
+    handed-on (freed s) l (λ e. meetsSet (freed s) (e .operation .0)) (picked (freed s) l) (seek-finds _ (inUse s l))
+    (omega (arith, length-take (s .waiting) l, d .record-sound .count-most))
+
 module _ (s : Session) (l : List Entry) (t : Terminal) where
   abbrev w : ℕ
   w = operationsBy s (unionOf (s .table .rows) (s .set))
@@ -74,14 +81,6 @@ module _ (s : Session) (l : List Entry) (t : Terminal) where
       let same = getD-take (s .waiting) l i blankEntry there in
       operation-meets s (unionOf (s .table .rows) (s .set)) _
       (omega (arith, ap (λ (e : Entry). e .operation .0) same, d .operations-exist i there, r .table-sound .names-most)))
-
-  -- the core step is the step
-  finish-core : 64 ≤ length l → Sound s l → finishOutcome l (finishCore s (f .first)) ≡ finishStep s l
-  unfolding finishCore finishStep picked
-  finish-core long d =
-      rw (first-picked long d)
-      (handed-on (freed s) l (λ e. meetsSet (freed s) (e .operation .0)) (picked (freed s) l) (seek-finds _ (inUse s l))
-      (omega (arith, in-use s l t w long (d .record-sound), d .record-sound .count-most)))
 
   module _ (sound : Bool) (says : (sound ≡ true) ↔ RecordSound s) where
     abbrev rows : ℕ → Type 0
@@ -108,7 +107,8 @@ module _ (s : Session) (l : List Entry) (t : Terminal) where
         does
         (λ m row.
         finish-rows-left s l (t .0) row (rows-left s l row .3 (p .long) (p .is-sound) (p .below)) .1 (runs-says (s .state) t .0 runs))
-        (finish-core (p .long) (p .is-sound))
+        (ap (λ (first : Found). finishOutcome l (finishCore s first)) (first-picked (p .long) (p .is-sound))
+        ∙ finish-core-is-step s l (p .long) (p .is-sound))
 
     pub finish-served : Good (finishValue sound s (length l) f t)
     unfolding finishValue
@@ -122,5 +122,5 @@ pub finish-finishes : (s : Session) (l : List Entry) (t : Terminal) (f : Search)
     → FinishedBy s (length l) f t v → Finishes s l t (v .reply) (v .session) (takenOut (v .used) (v .place) l)
 finish-finishes s l t f v e by = rw (by .is, e) (finish-served s l t (by .sound) (by .says))
 
-pub finish-core-is-step : Finish-core-is-step
-finish-core-is-step s l t long d = finish-core s l t long d
+pub looking-finds-picked : Looking-finds-picked
+looking-finds-picked s l t = first-picked s l t

@@ -11,6 +11,7 @@ pub mod WithdrawServed
 pub mod RecordKeeps
 pub mod ListKeeps
 pub mod StepsKeep
+pub mod CoresKeep
 pub mod TableStable
 pub mod CallCases
 pub mod CallsKeep

@@ -43,7 +43,7 @@ granting-by s e n l sound all other =
 
 pub open-step-sound : Open-step-sound
 unfolding openStep
-open-step-sound t l long sound =
+open-step-sound t l sound =
     sound-by (opening t) _ (opening-sound t sound)
     (record {
       below = λ i h. absurd (not-suc-le-zero h);

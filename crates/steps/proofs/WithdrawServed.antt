@@ -11,7 +11,6 @@ use Rattle.standing.specs.declared.numbers.Terminal.{Terminal}
 use Rattle.standing.specs.declared.entries.Entry.{Entry}
 use Rattle.standing.specs.declared.records.Session.{Session}
 use Rattle.standing.specs.declared.searches.Search.{Search}
-use Rattle.standing.specs.declared.searches.Waiter.{Waiter}
 use Rattle.standing.specs.declared.searches.Found.{Found}
 use Rattle.standing.specs.declared.searches.Found.the-variants.{Nobody, At}
 use Rattle.steps.specs.declared.outcomes.Withdrawn.{Withdrawn}
@@ -23,7 +22,7 @@ use Rattle.steps.specs.Refusals.{Row, First}
 use Rattle.steps.specs.Refusals.Row.{withdraw-by-another}
 use Rattle.steps.specs.Calling.{Serves, Withdraws, refusing}
 use Rattle.steps.specs.Calling.Serves.{refuses, does}
-use Rattle.steps.specs.Promises.{Withdraw-core-is-step}
+use Rattle.steps.specs.Promises.{Withdraw-core-is-step, Looking-finds-own}
 use Rattle.steps.specs.Values.{withdrawOutcome, isFound, notWithdrawn, withdrawCore, withdrawFound, withdrawValue, WithdrawnBy}
 use Rattle.steps.proofs.RowNumbers.{rows-left, withdraw-rows-left}
 use Rattle.steps.proofs.Verdicts.{found, own-found, waits-says, Passed, Common, common}
@@ -33,6 +32,11 @@ not-withdrawn : (s : Session) (l : List Entry) (m : ℕ) → withdrawOutcome l (
 unfolding takenOut
 not-withdrawn s l m = refl
 
+-- the core step is the step
+pub withdraw-core-is-step : Withdraw-core-is-step
+unfolding withdrawStep withdrawCore
+withdraw-core-is-step s l t w there = ap (takeBack s l) (sym there)
+
 module _ (s : Session) (l : List Entry) (t : Terminal) where
   abbrev f : Search
   f = found s l t 0
@@ -40,11 +44,6 @@ module _ (s : Session) (l : List Entry) (t : Terminal) where
   own-entry : f .own ≡ entryOf s l (t .0)
   unfolding entryOf
   own-entry = own-found s l t 0
-
-  -- the core step is the step
-  withdraw-core : (w : Waiter) → f .own ≡ At w → withdrawOutcome l (withdrawCore s (w .place)) ≡ withdrawStep s l (t .0)
-  unfolding withdrawStep withdrawCore
-  withdraw-core w there = ap (takeBack s l) (sym there ∙ own-entry)
 
   module _ (sound : Bool) (says : (sound ≡ true) ↔ RecordSound s) where
     abbrev rows : ℕ → Type 0
@@ -73,7 +72,7 @@ module _ (s : Session) (l : List Entry) (t : Terminal) where
         (λ m row.
         withdraw-rows-left s l (t .0) row (rows-left s l row .3 (p .long) (p .is-sound) (p .below)) .1
         (waits-says s l t 0 (p .long) (p .is-sound .record-sound) .0 (ap isFound there)))
-        (withdraw-core w there)
+        (withdraw-core-is-step s l (t .0) w (sym own-entry ∙ there))
 
     pub withdraw-served : Good (withdrawValue sound s (length l) f t)
     unfolding withdrawValue
@@ -87,5 +86,5 @@ pub withdraw-withdraws : (s : Session) (l : List Entry) (t : Terminal) (f : Sear
     → WithdrawnBy s (length l) f t v → Withdraws s l t (v .reply) (v .session) (takenOut (v .used) (v .place) l)
 withdraw-withdraws s l t f v e by = rw (by .is, e) (withdraw-served s l t (by .sound) (by .says))
 
-pub withdraw-core-is-step : Withdraw-core-is-step
-withdraw-core-is-step s l t w there = withdraw-core s l t w there
+pub looking-finds-own : Looking-finds-own
+looking-finds-own s l t = own-entry s l t

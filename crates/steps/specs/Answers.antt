@@ -24,6 +24,7 @@ pub data Answer : Type 0 where
   -- "Numbers of refusal", 8 to 15
   refused : (number : ℕ) → Answer
 
+-- the cases of each call's reply
 abbrev pub openAnswer : OpenReply → Answer
 openAnswer Opened = opened
 openAnswer (OpenRefused m) = refused m

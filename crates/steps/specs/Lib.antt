@@ -3,7 +3,7 @@ pub mod Answers
 pub mod Steps
 pub mod Refusals
 pub mod Calling
--- What the inner functions say: nothing that needs to be believed.
+-- What the inner functions say.
 pub mod Values
 -- What is promised of steps and calls.
 pub mod Promises

@@ -23,16 +23,16 @@ use Rattle.steps.specs.Refusals.{Runs, Waits}
 use Rattle.standing.specs.Lists.{blankEntry, inUse}
 use Rattle.standing.specs.Searching.{looked, looking, handing}
 use Rattle.steps.specs.Values.{askCore, finishCore, withdrawCore, askOutcome, finishOutcome, withdrawOutcome}
-use Rattle.steps.specs.Steps.{Outcome, openStep, askStep, finishStep, withdrawStep}
+use Rattle.steps.specs.Steps.{Outcome, freed, picked, entryOf, openStep, askStep, finishStep, withdrawStep}
 use Rattle.steps.specs.Calling.{Opens, Asks, Finishes, Withdraws}
 
 -- what a call leaves is sound
 abbrev pub SoundAfter : Outcome → Type 0
 SoundAfter o = Sound (o .session) (o .list)
 
--- the core steps keep a sound record and list sound, on a list of 64 entries or more
+-- the steps keep a sound record and list sound, on a list of 64 entries or more
 abbrev pub Open-step-sound : Type 0
-Open-step-sound = (t : Table) (l : List Entry) → 64 ≤ length l → TableSound t → SoundAfter (openStep t l)
+Open-step-sound = (t : Table) (l : List Entry) → TableSound t → SoundAfter (openStep t l)
 
 abbrev pub Ask-step-keeps : Type 0
 Ask-step-keeps =
@@ -45,7 +45,8 @@ Finish-step-keeps = (s : Session) (l : List Entry) → 64 ≤ length l → Sound
 abbrev pub Withdraw-step-keeps : Type 0
 Withdraw-step-keeps = (s : Session) (l : List Entry) (t : ℕ) → 64 ≤ length l → Sound s l → SoundAfter (withdrawStep s l t)
 
--- the core steps by value are these steps, of a sound record and list; the entry of a finish is what looking through the list found first
+-- the core steps by value are these steps, of a sound record and list: an ask by a terminal that does not wait, a finish with the entry
+-- that it picks, a withdrawal with the place of its terminal's entry
 abbrev pub Ask-core-is-step : Type 0
 Ask-core-is-step =
     (s : Session) (l : List Entry) (e : Entry) → 64 ≤ length l → Sound s l → e .terminal .0 < 64 → ¬ Waits s l (e .terminal .0)
@@ -53,13 +54,36 @@ Ask-core-is-step =
 
 abbrev pub Finish-core-is-step : Type 0
 Finish-core-is-step =
-    (s : Session) (l : List Entry) (t : Terminal) → 64 ≤ length l → Sound s l
-    → finishOutcome l (finishCore s (looked 0 (handing s t) (inUse s l) .first)) ≡ finishStep s l
+    (s : Session) (l : List Entry) → 64 ≤ length l → Sound s l → finishOutcome l (finishCore s (picked (freed s) l)) ≡ finishStep s l
 
 abbrev pub Withdraw-core-is-step : Type 0
 Withdraw-core-is-step =
-    (s : Session) (l : List Entry) (t : Terminal) (w : Waiter) → looked 0 (looking s t) (inUse s l) .own ≡ At w
-    → withdrawOutcome l (withdrawCore s (w .place)) ≡ withdrawStep s l (t .0)
+    (s : Session) (l : List Entry) (t : ℕ) (w : Waiter) → entryOf s l t ≡ At w
+    → withdrawOutcome l (withdrawCore s (w .place)) ≡ withdrawStep s l t
+
+-- so they keep a sound record and list sound
+abbrev pub Ask-core-keeps : Type 0
+Ask-core-keeps =
+    (s : Session) (l : List Entry) (e : Entry) → 64 ≤ length l → Sound s l → e .terminal .0 < 64 → ¬ Runs s (e .terminal .0)
+    → ¬ Waits s l (e .terminal .0) → e .operation .0 < s .table .names → SoundAfter (askOutcome l (askCore s (length l) e))
+
+abbrev pub Finish-core-keeps : Type 0
+Finish-core-keeps =
+    (s : Session) (l : List Entry) → 64 ≤ length l → Sound s l → SoundAfter (finishOutcome l (finishCore s (picked (freed s) l)))
+
+abbrev pub Withdraw-core-keeps : Type 0
+Withdraw-core-keeps =
+    (s : Session) (l : List Entry) (t : ℕ) (w : Waiter) → 64 ≤ length l → Sound s l → entryOf s l t ≡ At w
+    → SoundAfter (withdrawOutcome l (withdrawCore s (w .place)))
+
+-- looking through the entries in use finds these entries
+abbrev pub Looking-finds-picked : Type 0
+Looking-finds-picked =
+    (s : Session) (l : List Entry) (t : Terminal) → 64 ≤ length l → Sound s l
+    → looked 0 (handing s t) (inUse s l) .first ≡ picked (freed s) l
+
+abbrev pub Looking-finds-own : Type 0
+Looking-finds-own = (s : Session) (l : List Entry) (t : Terminal) → looked 0 (looking s t) (inUse s l) .own ≡ entryOf s l (t .0)
 
 -- "The count is at most 64": an ask that goes on finds room, since the terminals are below 64 and all different
 abbrev pub Room-for-one : Type 0

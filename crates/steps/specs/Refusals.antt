@@ -16,14 +16,17 @@ use Rattle.standing.specs.declared.records.Session.{Session}
 use Rattle.standing.specs.declared.records.State.the-variants.{Running}
 use Rattle.standing.specs.Soundness.{Sound, terminalIn}
 
+-- whose call it is
 abbrev pub terminalOf : Call → ℕ
 terminalOf (ask t n) = t
 terminalOf (finish t) = t
 terminalOf (withdraw t) = t
 
+-- "the running terminal" is t
 abbrev pub Runs : Session → ℕ → Type 0
 Runs s t = s .state ≡ Running (record { 0 = t })
 
+-- t is "a waiting terminal": it stands among the entries in use
 abbrev pub Waits : Session → List Entry → ℕ → Type 0
 Waits s l t = (i : ℕ) × (i < s .waiting) × (terminalIn l i ≡ t)
 

@@ -4,7 +4,6 @@ use mathlib.Core.List.{List}
 use Prim.Native.Nat.{ℕ, suc, _-_}
 use lib.Bits.{bitAnd}
 use lib.Dec.{eqb}
-use lib.ListN.{set}
 use Rattle.meaning.specs.Sets.{unionOf}
 use Rattle.table.specs.Following.{permissionSet}
 use Rattle.table.specs.declared.cells.Table.{Table}
@@ -16,7 +15,7 @@ use Rattle.standing.specs.declared.searches.Found.{Found}
 use Rattle.standing.specs.declared.searches.Found.the-variants.{Nobody, At}
 use Rattle.steps.specs.Answers.{Answer}
 use Rattle.steps.specs.Answers.Answer.{opened, granted, delayed, finished, handed, withdrawn}
-use Rattle.standing.specs.Lists.{inUse, blanked, placeOf, takenOut, seek}
+use Rattle.standing.specs.Lists.{inUse, blanked, placeOf, putAt, takenOut, seek}
 use Rattle.standing.specs.Soundness.{meetsSet}
 
 -- what a call leaves: its reply, the record and the list
@@ -64,7 +63,7 @@ askStep s l e =
     (record {
       answer = delayed (placeOf (inUse s l) e);
       session = counting s (suc (s .waiting));
-      list = set l (placeOf (inUse s l) e) e;
+      list = putAt (placeOf (inUse s l) e) e l;
     })
 
 -- which entry a finish picks: "the list is examined from the front; the first entry whose operation meets the set"
@@ -72,16 +71,16 @@ unfoldable pub picked : Session → List Entry → Found
 picked s l = seek (λ e. meetsSet s (e .operation .0)) (inUse s l)
 
 -- "the number of entries examined: the place of the granted entry plus 1, or the whole count"
-abbrev pub examinedTo : Session → Found → ℕ
-examinedTo s Nobody = s .waiting
-examinedTo s (At w) = suc (w .place)
+abbrev pub examinedTo : Session → List Entry → Found → ℕ
+examinedTo s l Nobody = s .waiting
+examinedTo s l (At w) = suc (w .place)
 
 -- "is taken out, the set becomes what both share, and that terminal runs. If there is none, the record is free"
 abbrev pub handOn : Session → List Entry → Found → Outcome
-handOn s l Nobody = record { answer = finished (examinedTo s Nobody); session = s; list = l }
+handOn s l Nobody = record { answer = finished (examinedTo s l Nobody); session = s; list = l }
 handOn s l (At w) =
     record {
-      answer = handed (examinedTo s (At w)) (w .entry .terminal .0) (w .entry .operation .0);
+      answer = handed (examinedTo s l (At w)) (w .entry .terminal .0) (w .entry .operation .0);
       session = granting s (w .entry) (s .waiting - 1);
       list = takenOut (s .waiting) (w .place) l;
     }

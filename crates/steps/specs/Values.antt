@@ -1,5 +1,5 @@
--- The calls by value: what the inner functions say. Nothing here needs to be believed: the contracts of the calls (Calling.antt) do not
--- speak of it.
+-- The calls by value: what the inner functions say. The contracts of the calls (Calling.antt) do not speak of it; the promises of the
+-- core steps (Promises.antt) do, of `askCore`, `finishCore`, `withdrawCore` and what they leave of a list.
 use mathlib.Core.Path.{_≡_}
 use mathlib.Core.Bool.{Bool, true, false, cond, _&&_}
 use mathlib.Core.List.{List}
@@ -37,8 +37,8 @@ use Rattle.standing.specs.Soundness.{RecordSound, meetsSet}
 use Rattle.steps.specs.Steps.{Outcome, isFree, opening, granting, counting, freed}
 
 -- a record over the same table
-abbrev pub standing : Session → ℕ → State → ℕ → Session
-standing s set state n = record { table = s .table; set = set; state = state; waiting = n }
+abbrev pub overTable : Session → ℕ → State → ℕ → Session
+overTable s set state n = record { table = s .table; set = set; state = state; waiting = n }
 
 -- one more, of at most 64
 unfoldable pub oneMore : ℕ → ℕ

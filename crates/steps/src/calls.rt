@@ -33,6 +33,7 @@ use table::soundness::is_sound;
 fn refusal(session: Session, entries: usize, found: Search, terminal: Terminal) -> u8
     ensures { λ r. ⌜ Decided (RecordSound session) (λ sound. firstNumber sound entries found terminal) r ⌝ }
 {
+    // Known before 8 is tested, so that one value says it in every reply; no reply depends on the order.
     let sound = record_is_sound(session);
     if entries < 64 {
         return 8;
@@ -81,6 +82,7 @@ fn not_opened(session: Session, number: u8) -> Opened
 pub fn opened(session: Session, entries: usize, table: Table) -> Opened
     ensures { λ r. ⌜ OpenedBy session entries table r ⌝ }
 {
+    // As above.
     let sound = is_sound(table);
     if entries < 64 {
         return not_opened(session, 8);

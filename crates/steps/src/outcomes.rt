@@ -29,7 +29,7 @@ pub struct Handed {
     pub place: usize,
 }
 
-// The same.
+// Of the first `used` entries, the one at the place is taken out, if it is one of them.
 pub struct Withdrawn {
     pub reply: WithdrawReply,
     pub session: Session,

@@ -1,11 +1,12 @@
-// The core steps, by value: what an ask, a finish and a withdrawal do that nothing refuses. They test nothing: of a sound record and list
-// they leave a sound one. Callers from outside use the calls, which test.
+// The core steps, by value: what an opening, an ask, a finish and a withdrawal do that nothing refuses. They test nothing. Of a sound record
+// and list they leave a sound one, for an ask by a terminal that neither runs nor waits, a finish with the entry that it picks and a
+// withdrawal with its terminal's own (specs/Promises.antt). Callers from outside use the calls, which test.
 ghost use mathlib.Core.Path.{_≡_};
 ghost use Prim.Native.Nat.{_-_};
 ghost use Rattle.table.specs.Following.{permissionSet};
 ghost use Rattle.standing.specs.Soundness.{meetsSet};
 ghost use Rattle.steps.specs.Steps.{isFree, opening, granting, counting, freed};
-ghost use Rattle.steps.specs.Values.{standing, oneMore, askCore, handCore, finishCore, withdrawCore};
+ghost use Rattle.steps.specs.Values.{overTable, oneMore, askCore, handCore, finishCore, withdrawCore};
 use crate::outcomes::Asked;
 use crate::outcomes::Handed;
 use crate::outcomes::Withdrawn;
@@ -28,7 +29,7 @@ use table::sets::union_of;
 
 // A record over the same table.
 fn with_standing(session: Session, set: u64, state: State, waiting: usize) -> Session
-    ensures { λ r. ⌜ r ≡ standing session set state waiting ⌝ }
+    ensures { λ r. ⌜ r ≡ overTable session set state waiting ⌝ }
 {
     let table = session.table;
     Session {

@@ -28,7 +28,7 @@ use table::numbers::Operation;
 
 const NEWLINE: u8 = 10;
 
-// A number of a line, and where it ends.
+// A number of a script's line, and where it ends.
 struct Field {
     value: u64,
     end: usize,
@@ -64,11 +64,11 @@ fn with_digit(value: u64, b: u8) -> u64 {
 }
 
 // The number that starts at `from`.
-fn number(line: &[u8], from: usize) -> Field {
+fn number(text: &[u8], from: usize) -> Field {
     let mut value: u64 = 0;
     let mut k = from;
-    while k < line.len() {
-        let b = line[k];
+    while k < text.len() {
+        let b = text[k];
         if !is_digit(b) {
             return Field {
                 value: value,
@@ -84,24 +84,24 @@ fn number(line: &[u8], from: usize) -> Field {
     }
 }
 
-// A place of the line, or its end.
-fn within(line: &[u8], at: usize) -> usize
-    ensures { λ r. ⌜ r ≤ length (now (line .entry)) ⌝ }
+// A place of the text, or its end.
+fn within(text: &[u8], at: usize) -> usize
+    ensures { λ r. ⌜ r ≤ length (now (text .entry)) ⌝ }
 {
-    if at < line.len() {
+    if at < text.len() {
         return at;
     }
-    line.len()
+    text.len()
 }
 
-// The place behind one, or the line's end.
-fn behind(line: &[u8], at: usize) -> usize
-    ensures { λ r. ⌜ r ≤ length (now (line .entry)) ⌝ }
+// The place behind one, or the text's end.
+fn behind(text: &[u8], at: usize) -> usize
+    ensures { λ r. ⌜ r ≤ length (now (text .entry)) ⌝ }
 {
-    if at < line.len() {
+    if at < text.len() {
         return at + 1;
     }
-    line.len()
+    text.len()
 }
 
 fn show_open(reply: OpenReply, shows: bool) {
@@ -274,37 +274,25 @@ fn byte_of(n: u64) -> u8 {
 // One cell of the table gets a value.
 fn table_damaged(table: Table, kind: u64, at: usize, value: u64) -> Table {
     let mut t = table;
-    if kind == 6 {
-        t.start = value;
+    match kind {
+        6 => t.start = value,
+        11 => t.mark = byte_of(value),
+        12 => t.positions = value as usize,
+        13 => t.names = value as usize,
+        _ => {}
     }
-    if kind == 7 {
-        if at < 64 {
-            t.rows[at] = value;
+    if at < 64 {
+        match kind {
+            7 => t.rows[at] = value,
+            8 => t.operations[at] = Operation(byte_of(value)),
+            _ => {}
         }
     }
-    if kind == 8 {
-        if at < 64 {
-            t.operations[at] = Operation(byte_of(value));
-        }
+    if kind == 9 && at < 32 {
+        t.lengths[at] = byte_of(value);
     }
-    if kind == 9 {
-        if at < 32 {
-            t.lengths[at] = byte_of(value);
-        }
-    }
-    if kind == 10 {
-        if at < 512 {
-            t.bytes[at] = byte_of(value);
-        }
-    }
-    if kind == 11 {
-        t.mark = byte_of(value);
-    }
-    if kind == 12 {
-        t.positions = value as usize;
-    }
-    if kind == 13 {
-        t.names = value as usize;
+    if kind == 10 && at < 512 {
+        t.bytes[at] = byte_of(value);
     }
     t
 }
