@@ -1,5 +1,5 @@
 -- What each public function answers is determined: the contracts of the calls leave one reply, record and list.
-use mathlib.Core.Path.{_≡_, ap, _∙_}
+use mathlib.Core.Path.{_≡_}
 use mathlib.Core.List.{List}
 use Prim.Native.Nat.{ℕ}
 use Rattle.table.specs.declared.cells.Table.{Table}

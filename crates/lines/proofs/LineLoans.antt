@@ -14,7 +14,8 @@ use base.Fml.{GName, Fml, fsep, feq, fat, flft, fres}
 use prog.Wp.{Heap}
 use ghost.Atoms.{Atoms, sem}
 use contract.Monad.{fact}
-use types.Kit.{Given, Item, mean, ‵, raw, some, given, later, _⊛_, _$_, _∵_, !, qed, use1, use3, split, move, keep, pick, learn, join, fsplit, fjoin, check, show, await, updating, now as at-once, done}
+use types.Kit.{Given, Item, mean, ‵, raw, some, given, later, _⊛_, _$_, _∵_, !, qed, use1, use3, split, move, keep, pick, learn}
+use types.Kit.{join, fsplit, fjoin, check, show, await, updating, now as at-once, done}
 use denote.Laws.{Is}
 use denote.Slice.{sliceVal, MutSlice, finally}
 use denote.Steps.{heard, nothing}
@@ -28,15 +29,16 @@ use Rattle.standing.proofs.entries.Entry as E
 use Rattle.standing.proofs.entries.Entry.Laws as E′
 use Rattle.lines.proofs.held.Line as L
 use Rattle.lines.proofs.held.Line.Laws as L′
+use Rattle.session.proofs.Lent.{ref-to}
 use Rattle.session.proofs.Records.{Holds}
-use Rattle.session.proofs.Values.{session-val, IsSession}
-use Rattle.lines.proofs.LentLocals.{at-local, Owed, OwedList, array-val, IsArray, lends-local, local-back, lends-array, array-back}
+use Rattle.session.proofs.Values.{session-val, IsSession, made-session}
+use Rattle.lines.proofs.LentLocals.{Owed, OwedList, array-val, IsArray, lends-local, local-back, lends-array, array-back}
 
 -- the list of a line
 abbrev pub entries-mir : Ty
 entries-mir = tyArray E′.mir 64
 
-abbrev pub entries-val : List Entry → Val
+abbrev entries-val : List Entry → Val
 entries-val = array-val E.the-type E′.the-laws 64
 
 abbrev pub IsEntries : List Entry → Type 0
@@ -67,8 +69,8 @@ abbrev pub Loans : Type 0
 Loans = (ℕ × GName) × (ℕ × GName)
 
 -- what the reference to the list owns
-abbrev pub HoldsList : Loans → ℕ → List Entry → Fml
-HoldsList a l′ ys = MutSlice (named 1) (a .1 .0 ∷ []) E.the-row .own (at-local l′ (a .1 .1) ys) (sliceVal (l′, 0) 64 ∷ [])
+abbrev HoldsList : Loans → ℕ → List Entry → Fml
+HoldsList a l′ ys = MutSlice (named 1) (a .1 .0 ∷ []) E.the-row .own (ref-to l′ 0 (a .1 .1) ys) (sliceVal (l′, 0) 64 ∷ [])
 
 module _ {M : Type 1} {𝓤 : URA M} where
   -- the two cells
@@ -93,7 +95,8 @@ Fits Is-X Does v = Is-X (v .0) × ((IsSession (v .1 .0) × IsEntries (v .1 .1)) 
 abbrev pub line-left : {X : Type 0} → X × (Session × List Entry) → Line
 line-left v = record { session = v .1 .0; list = v .1 .1 }
 
-pub is-line-left : {X : Type 0} (v : X × (Session × List Entry)) → IsSession (v .1 .0) × IsEntries (v .1 .1) → IsLine (line-left v)
+pub is-line-left : {X : Type 0} (v : X × (Session × List Entry)) → IsSession (v .1 .0) × IsEntries (v .1 .1)
+    → IsLine (line-left v)
 is-line-left v parts = LL.owes L.the-type L′.the-laws (line-left v) (parts .0, (parts .1, tt))
 
 -- it leaves their cells, and q beside them
@@ -107,7 +110,7 @@ module _ {M : Type 1} {𝓤 : URA M} {H : Heap 𝓤} {A : Atoms 𝓤} (W : Given
   lends-both h ys gh gy = qed W (Cells l l′ h ys ∷ []) ∵ updating ! $ split ! $
       use1 W (later (some (λ (a : ℕ × GName). ‵ (flft (a .0 ∷ []) fullShare)
       ⊛ ‵ (Holds S.the-type (named 0) (a .0 ∷ []) l 0 (a .1) h) ⊛ ‵ (Owed S.the-row (a .0) l (a .1)))))
-      (lends-local 𝓤 H A W S.the-row S′.mir refl session-val (LL.makes S.the-type S′.the-plain 𝓤 H A) (named 0) h gh l) $
+      (lends-local 𝓤 H A W S.the-row S′.mir refl session-val (made-session 𝓤 H A) (named 0) h gh l) $
       await ! tt $ pick ! (λ a. move ! (1 ∷ []) $
       use1 W (later (some (λ (b : ℕ × GName). ‵ (flft (b .0 ∷ []) fullShare)
       ⊛ ‵ (HoldsList (a, b) l′ ys) ⊛ ‵ (OwedList E.the-row 64 (b .0) l′ (b .1)))))

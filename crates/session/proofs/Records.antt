@@ -15,19 +15,17 @@ use types.Kit.{Goal, Soaks, Given, Item, Seq, Step, step, ‵, _⊛_, _$_, move,
 use types.SemTy.{Body}
 use denote.Laws.{Is, shows}
 use denote.Memory.{mem, cellAt}
-use denote.Ref.{RefT, MutRef}
+use denote.Ref.{MutRef}
 use denote.Steps.{opens, closes, owned, peeks}
 use denote.Struct.Steps.{spelt}
 use denote.Struct.Struct.{Plains}
 use denote.Struct.Declared.{Declared, row, fields}
 use denote.Struct.Laws.{Laws, vals, tells, makes}
+use Rattle.session.proofs.Lent.{ref-to}
 
--- the reference, at a record; and what it owns
-abbrev pub at-record : (T : Declared) → ℕ → ℕ → GName → T .D → RefT (T .D)
-at-record T b o γ h = record { ptr = (b, o); name = γ; now = h }
-
+-- what the reference owns
 abbrev pub Holds : (T : Declared) → Lifetime → Lft → ℕ → ℕ → GName → T .D → Fml
-Holds T ℓ κ b o γ h = MutRef ℓ κ (row T) .own (at-record T b o γ h) (vptr b o ∷ [])
+Holds T ℓ κ b o γ h = MutRef ℓ κ (row T) .own (ref-to b o γ h) (vptr b o ∷ [])
 
 module _ {M : Type 1} {𝓤 : URA M} {H : Heap 𝓤} {A : Atoms 𝓤} {K : Type 0} {W : Given 𝓤 H A} {Γ : List (Item 𝓤)} {G : Goal 𝓤 H}
     (t : K) (z : Soaks G) (T : Declared) (L : Laws T) (ℓ : Lifetime) {κ : Lft} {q : Share} (b o : ℕ) {γ : GName} where
@@ -44,8 +42,8 @@ module _ {M : Type 1} {𝓤 : URA M} {H : Heap 𝓤} {A : Atoms 𝓤} {K : Type 
       → Step K W (‵ (Holds T ℓ κ b o γ h) ∷ ‵ (flft κ q) ∷ Γ) G
       (‵ (cellAt fullShare (row T .mir) (vals T L h) b o) ∷ ‵ (fobor κ q (Body (mem (row T)) b o γ)) ∷ ‵ (fobs γ u)
       ∷ ‵ (fauth γ v) ∷ Γ) G
-  closes-record plain h is = step (λ s. owned t (row T) (Is (row T)) (makes T plain 𝓤 H A) h (vals T L h) is $ move t (1 ∷ 0 ∷ []) $
-      closes t z (row T) h (vals T L h) b o $ feqI t (List Val) (vptr b o ∷ []) (vptr b o ∷ []) refl $ fjoin3 t $ s)
+  closes-record plain h is = step (λ s. owned t (row T) (Is (row T)) (makes T plain 𝓤 H A) h (vals T L h) is $
+      move t (1 ∷ 0 ∷ []) $ closes t z (row T) h (vals T L h) b o $ feqI t (List Val) (vptr b o ∷ []) (vptr b o ∷ []) refl $ fjoin3 t $ s)
 
 -- what a function has at entry that is lent a record and then a list: of each what its reference owns, beside its lifetime's
 -- token. More tokens are m, and what is owned of further parameters is P

@@ -7,8 +7,8 @@ use crate::lists::take_out;
 use standing::entries::Entry;
 use standing::numbers::Terminal;
 use standing::records::Session;
-use standing::searches::hand_on;
 use standing::searches::look_for;
+use standing::searches::look_for_next;
 use steps::calls::asked;
 use steps::calls::finished;
 use steps::calls::opened;
@@ -46,7 +46,7 @@ pub fn finish(session: &mut Session, list: &mut [Entry], terminal: Terminal) -> 
     ensures { λ r. ⌜ Finishes (now (session .entry)) (now (list .entry)) terminal r (now (session .exit)) (now (list .exit)) ⌝ }
 {
     let before = *session;
-    let found = find(list, before.waiting, hand_on(before, terminal));
+    let found = find(list, before.waiting, look_for_next(before, terminal));
     let out = finished(before, list.len(), found, terminal);
     *session = out.session;
     take_out(list, out.used, out.place);

@@ -14,7 +14,7 @@ use Rattle.standing.specs.declared.entries.Entry.{Entry}
 use Rattle.standing.specs.declared.records.Session.{Session}
 use Rattle.standing.specs.declared.searches.Search.{Search}
 use Rattle.standing.specs.Lists.{blankEntry}
-use Rattle.standing.specs.Searching.{operationsIn, examined, looking, handing}
+use Rattle.standing.specs.Searching.{operationsIn, examined, looking, lookingNext}
 use Rattle.standing.specs.Soundness.{RecordSound}
 
 pub least-determined : (a b r r′ : ℕ) → r ≡ min a b → r′ ≡ min a b → r ≡ r′
@@ -33,8 +33,8 @@ examine-determined s e place r r′ = both-equal
 pub look-for-determined : (s : Session) (t : Terminal) (r r′ : Search) → r ≡ looking s t → r′ ≡ looking s t → r ≡ r′
 look-for-determined s t r r′ = both-equal
 
-pub hand-on-determined : (s : Session) (t : Terminal) (r r′ : Search) → r ≡ handing s t → r′ ≡ handing s t → r ≡ r′
-hand-on-determined s t r r′ = both-equal
+pub look-for-next-determined : (s : Session) (t : Terminal) (r r′ : Search) → r ≡ lookingNext s t → r′ ≡ lookingNext s t → r ≡ r′
+look-for-next-determined s t r r′ = both-equal
 
 pub record-is-sound-determined : (s : Session) (r r′ : Bool) → (r ≡ true) ↔ RecordSound s → (r′ ≡ true) ↔ RecordSound s → r ≡ r′
 record-is-sound-determined s r r′ = both-decide r r′

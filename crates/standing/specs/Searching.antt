@@ -97,5 +97,5 @@ searching s t w =
 abbrev pub looking : Session → Terminal → Search
 looking s t = searching s t 0
 
-abbrev pub handing : Session → Terminal → Search
-handing s t = searching s t (operationsBy s (unionOf (s .table .rows) (s .set)))
+abbrev pub lookingNext : Session → Terminal → Search
+lookingNext s t = searching s t (operationsBy s (unionOf (s .table .rows) (s .set)))

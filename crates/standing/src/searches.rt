@@ -3,7 +3,7 @@ ghost use mathlib.Core.Path.{_≡_};
 ghost use lib.Bits.{bitOr};
 ghost use lib.ListN.{take};
 ghost use Rattle.meaning.specs.Sets.{mem};
-ghost use Rattle.standing.specs.Searching.{bitOf, operationsIn, orHere, entryFits, examined, barredIn, takenIn, searching, looking, handing};
+ghost use Rattle.standing.specs.Searching.{bitOf, operationsIn, orHere, entryFits, examined, barredIn, takenIn, searching, looking, lookingNext};
 use crate::entries::Entry;
 use crate::numbers::Terminal;
 use crate::numbers::least;
@@ -191,8 +191,8 @@ pub fn look_for(session: Session, terminal: Terminal) -> Search
 }
 
 // For a finish: the first entry whose operation meets the set that it leaves.
-pub fn hand_on(session: Session, terminal: Terminal) -> Search
-    ensures { λ r. ⌜ r ≡ handing session terminal ⌝ }
+pub fn look_for_next(session: Session, terminal: Terminal) -> Search
+    ensures { λ r. ⌜ r ≡ lookingNext session terminal ⌝ }
 {
     let rows = session.table.rows;
     let left = union_of(&rows, session.set);

@@ -18,7 +18,7 @@ use Rattle.standing.specs.declared.searches.Found.{Found}
 use Rattle.standing.specs.declared.searches.Found.the-variants.{Nobody, At}
 use Rattle.steps.specs.declared.outcomes.Handed.{Handed}
 use Rattle.standing.specs.Lists.{blankEntry, inUse, seek, takenOut}
-use Rattle.standing.specs.Searching.{operationsBy, searching, handing, looked}
+use Rattle.standing.specs.Searching.{operationsBy, searching, lookingNext, looked}
 use Rattle.standing.specs.Soundness.{RecordSound, Sound, meetsSet}
 use Rattle.steps.specs.Steps.{freed, picked, handOn, finishStep}
 use Rattle.steps.specs.Refusals.{Row, First}
@@ -118,7 +118,7 @@ module _ (s : Session) (l : List Entry) (t : Terminal) where
         by-number (stops m some e first) = rw (e, some) (refused-by m first)
         by-number (goes e p) = rw e (past p (runsIn (s .state) t) refl)
 
-pub finish-finishes : (s : Session) (l : List Entry) (t : Terminal) (f : Search) (v : Handed) → f ≡ looked 0 (handing s t) (inUse s l)
+pub finish-finishes : (s : Session) (l : List Entry) (t : Terminal) (f : Search) (v : Handed) → f ≡ looked 0 (lookingNext s t) (inUse s l)
     → FinishedBy s (length l) f t v → Finishes s l t (v .reply) (v .session) (takenOut (v .used) (v .place) l)
 finish-finishes s l t f v e by = rw (by .is, e) (finish-served s l t (by .sound) (by .says))
 

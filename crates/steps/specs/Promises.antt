@@ -21,7 +21,7 @@ use Rattle.steps.specs.Answers.Answer.{opened}
 use Rattle.standing.specs.Soundness.{Sound, entryIn}
 use Rattle.steps.specs.Refusals.{Runs, Waits}
 use Rattle.standing.specs.Lists.{blankEntry, inUse}
-use Rattle.standing.specs.Searching.{looked, looking, handing}
+use Rattle.standing.specs.Searching.{looked, looking, lookingNext}
 use Rattle.steps.specs.Values.{askCore, finishCore, withdrawCore, askOutcome, finishOutcome, withdrawOutcome}
 use Rattle.steps.specs.Steps.{Outcome, freed, picked, entryOf, openStep, askStep, finishStep, withdrawStep}
 use Rattle.steps.specs.Calling.{Opens, Asks, Finishes, Withdraws}
@@ -80,7 +80,7 @@ Withdraw-core-keeps =
 abbrev pub Looking-finds-picked : Type 0
 Looking-finds-picked =
     (s : Session) (l : List Entry) (t : Terminal) → 64 ≤ length l → Sound s l
-    → looked 0 (handing s t) (inUse s l) .first ≡ picked (freed s) l
+    → looked 0 (lookingNext s t) (inUse s l) .first ≡ picked (freed s) l
 
 abbrev pub Looking-finds-own : Type 0
 Looking-finds-own = (s : Session) (l : List Entry) (t : Terminal) → looked 0 (looking s t) (inUse s l) .own ≡ entryOf s l (t .0)

@@ -23,7 +23,7 @@ use Rattle.lines.proofs.held.LineFinished.Laws as O′
 use Rattle.session.proofs.calls.finish.Symbol as call-def
 use Rattle.session.proofs.calls.finish.Symbol.{name as #finish}
 use Rattle.session.proofs.calls.finish.Met as call-thm
-use Rattle.session.proofs.Values.{terminal-val, typed-terminal}
+use Rattle.session.proofs.Values.{terminal-val, typed-terminal, made-terminal}
 use Rattle.lines.proofs.LineLoans.{IsLine}
 use Rattle.lines.proofs.LineWalk.{Lined, Known, CallSays, lined-meets}
 use Rattle.lines.proofs.held.finish_line.Key.{name as #finish-line}
@@ -59,7 +59,7 @@ is-out r x gr gx = LL.owes O.the-type O′.the-laws (out r x) (gr, (gx, tt))
 known : {M : Type 1} (𝓤 : URA M) (H : Heap 𝓤) (A : Atoms 𝓤) → Given 𝓤 H A → Known lined 𝓤 H A
 known 𝓤 H A W = record {
   more-tells = LL.tells N.the-type N′.the-laws;
-  more-made = LL.makes N.the-type N′.the-plain 𝓤 H A;
+  more-made = made-terminal 𝓤 H A;
   more-typed = typed-terminal W;
   more-last = λ x. tt;
   more-silent = λ x f. refl;

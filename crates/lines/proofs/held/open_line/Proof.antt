@@ -23,7 +23,7 @@ use Rattle.lines.proofs.held.LineOpened.Laws as O′
 use Rattle.session.proofs.calls.open.Symbol as call-def
 use Rattle.session.proofs.calls.open.Symbol.{name as #open}
 use Rattle.session.proofs.calls.open.Met as call-thm
-use Rattle.session.proofs.Values.{table-val, typed-table}
+use Rattle.session.proofs.Values.{table-val, typed-table, made-table}
 use Rattle.lines.proofs.LineLoans.{IsLine}
 use Rattle.lines.proofs.LineWalk.{Lined, Known, CallSays, lined-meets}
 use Rattle.lines.proofs.held.open_line.Key.{name as #open-line}
@@ -59,7 +59,7 @@ is-out r x gr gx = LL.owes O.the-type O′.the-laws (out r x) (gr, (gx, tt))
 known : {M : Type 1} (𝓤 : URA M) (H : Heap 𝓤) (A : Atoms 𝓤) → Given 𝓤 H A → Known lined 𝓤 H A
 known 𝓤 H A W = record {
   more-tells = LL.tells B.the-type B′.the-laws;
-  more-made = LL.makes B.the-type B′.the-plain 𝓤 H A;
+  more-made = made-table 𝓤 H A;
   more-typed = typed-table W;
   more-last = λ x. tt;
   more-silent = λ x f. refl;

@@ -23,7 +23,7 @@ use Rattle.lines.proofs.held.LineWithdrawn.Laws as O′
 use Rattle.session.proofs.calls.withdraw.Symbol as call-def
 use Rattle.session.proofs.calls.withdraw.Symbol.{name as #withdraw}
 use Rattle.session.proofs.calls.withdraw.Met as call-thm
-use Rattle.session.proofs.Values.{terminal-val, typed-terminal}
+use Rattle.session.proofs.Values.{terminal-val, typed-terminal, made-terminal}
 use Rattle.lines.proofs.LineLoans.{IsLine}
 use Rattle.lines.proofs.LineWalk.{Lined, Known, CallSays, lined-meets}
 use Rattle.lines.proofs.held.withdraw_line.Key.{name as #withdraw-line}
@@ -59,7 +59,7 @@ is-out r x gr gx = LL.owes O.the-type O′.the-laws (out r x) (gr, (gx, tt))
 known : {M : Type 1} (𝓤 : URA M) (H : Heap 𝓤) (A : Atoms 𝓤) → Given 𝓤 H A → Known lined 𝓤 H A
 known 𝓤 H A W = record {
   more-tells = LL.tells N.the-type N′.the-laws;
-  more-made = LL.makes N.the-type N′.the-plain 𝓤 H A;
+  more-made = made-terminal 𝓤 H A;
   more-typed = typed-terminal W;
   more-last = λ x. tt;
   more-silent = λ x f. refl;

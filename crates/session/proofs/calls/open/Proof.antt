@@ -17,7 +17,8 @@ use contract.Monad.{Fun}
 use contract.Running.{givenOf, tables, tablesOf}
 use types.Kit.{Given, ‵, _⊛_, ⋆, _$_, _∵_, !, qed, by, move, drop, split, join, fjoin, suffices, frame, done}
 use types.Part.{agg, whole, sub, look-in}
-use types.Run.{look, look-raw, store-raw, init, stop, hop, fld, from, load, addr, of-opd, and-then, no-more, assigns, returns, enter, alloc1, alloc0, params1, pass1, pass0, free0}
+use types.Run.{look, look-raw, store-raw, init, stop, hop, fld, from, load, addr, of-opd, and-then, no-more, assigns, returns}
+use types.Run.{enter, alloc1, alloc0, params1, pass1, pass0, free0}
 use sound.WpLaws.{FmC, fmOf, WpFn-mono}
 use denote.RattleType.{owns}
 use denote.Laws.{Is}
@@ -31,7 +32,8 @@ use denote.Triple.Entry.{onEntry}
 use denote.Triple.Spec.{Meets, tripleOf}
 use denote.Triple.Statement.{Triple}
 use denote.Triple.Table.{entered, cited}
-use denote.Triple.Walked.{says, Stays, stay-ref, gave-slice, stay-none, walkOf, AllGo, goes-none, goes-ref, goes-gave-slice, Walks, ends-at, walked, walk-meets}
+use denote.Triple.Walked.{says, Stays, stay-ref, gave-slice, stay-none, walkOf, goes-none, goes-ref, goes-gave-slice, ends-at}
+use denote.Triple.Walked.{walked, walk-meets}
 use denote.Exit.{yes}
 use Rattle.table.specs.declared.cells.Table.{Table}
 use Rattle.standing.specs.declared.records.Session.{Session}
@@ -56,11 +58,13 @@ use Rattle.session.proofs.lists.blank.Symbol as blank-def
 use Rattle.session.proofs.lists.blank.Symbol.{name as #blank}
 use Rattle.session.proofs.lists.blank.Met as blank-thm
 use Rattle.session.proofs.Answers.{returned, answered}
+use Rattle.session.proofs.Lent.{ref-to, slice-val}
 use Rattle.session.proofs.Locals.{value-of, field-of, sets, puts, freed}
-use Rattle.session.proofs.Records.{at-record, Holds, opens-record, closes-record, unpacks}
+use Rattle.session.proofs.Records.{Holds, opens-record, closes-record, unpacks}
 use Rattle.session.proofs.Values.{table-val, IsSession, IsTable, IsOpened, typed-session, typed-table, typed-opened}
+use Rattle.session.proofs.Values.{table-owned}
 use Rattle.session.proofs.Deciding.{OpenedSays, opened-answers}
-use Rattle.session.proofs.ListCalls.{at-list, list-val, Left, Ends, BlankSays, blank-leaves}
+use Rattle.session.proofs.ListCalls.{Left, Ends, BlankSays, blank-leaves}
 use Rattle.steps.proofs.OpenServed.{open-opens}
 use Rattle.session.proofs.calls.open.Key.{name as #open}
 use Rattle.session.proofs.calls.open as open′
@@ -88,38 +92,46 @@ module _ (v : Opened) (is : IsOpened v) where
   blanks-fit = LL.owed O.the-type O′.the-laws v _ is .1 .1 .0 .1
 
 module _ {M : Type 1} (𝓤 : URA M) (H : Heap 𝓤) (A : Atoms 𝓤) (W : Given 𝓤 H A) (mem : Memory → SProp 𝓤) (run : Routine → Fun 𝓤)
-    (κ κ′ : Lft) (q q′ : Share)
-    (b o : ℕ) (γ : GName) (h : Session) (b′ o′ : ℕ) (γ′ : GName) (ys : List Entry) (x : Table) (gx : IsTable x) where
-  abbrev args : RefT Session × (RefT (List Entry) × (Table × Unit {0}))
-  args = (at-record S.the-type b o γ h, (at-list b′ o′ γ′ ys, (x, tt)))
+    (𝓣 : Tables 𝓤 H) (known-opened : Triple 𝓤 (𝓣 .C #opened) (OpenedSays 𝓤 H A mem run))
+    (known-blank : Triple 𝓤 (𝓣 .C #blank) (BlankSays 𝓤 H A mem run)) where
+  abbrev C : Calls 𝓤 H
+  C = 𝓣 .C
 
-  abbrev s : Val
-  s = list-val b′ o′ ys
+  abbrev Λ : Loops 𝓤 H
+  Λ = 𝓣 .Λ
 
-  abbrev at : List Val × (List Val × (List Val × Unit {0}))
-  at = (vptr b o ∷ [], (s ∷ [], (table-val x ∷ [], tt)))
+  fm : FmC 𝓤 H (W .laws) C
+  fm = fmOf 𝓤 H (W .laws) 𝓣
 
-  abbrev Post : Val → SProp 𝓤
-  Post = walkOf 𝓤 H A open′.ended stayed (open′.clauses 𝓤 H A mem run) .post (((κ, (κ′, tt)), (q, (q′, tt)), tt, args, at), tt)
+  module _ (κ κ′ : Lft) (q q′ : Share)
+      (b o : ℕ) (γ : GName) (h : Session) (b′ o′ : ℕ) (γ′ : GName) (ys : List Entry) (x : Table) (gx : IsTable x) where
+    abbrev args : RefT Session × (RefT (List Entry) × (Table × Unit {0}))
+    args = (ref-to b o γ h, (ref-to b′ o′ γ′ ys, (x, tt)))
 
-  exits : (v : Opened) (zs : List Entry) → IsOpened v → Opens h ys x (v .reply) (v .session) (blanked (v .blanks) ys)
-      → Ends ys (blanked (v .blanks) ys) zs
-      → ent 𝓤 (⋆ 𝓤 H A (Left κ′ q′ γ′ zs ∷ ‵ (Holds S.the-type (named 0) κ b o γ (v .session)) ∷ ‵ (flft κ q) ∷ []))
-      (Post (reply-val (v .reply)))
-  exits v zs is so end =
-      qed W (Left κ′ q′ γ′ zs ∷ ‵ (Holds S.the-type (named 0) κ b o γ (v .session)) ∷ ‵ (flft κ q) ∷ []) ∵
-      suffices ! _ (ends-at 𝓤 H A open′.ended stayed (open′.clauses 𝓤 H A mem run) W
-      (((κ, (κ′, tt)), (q, (q′, tt)), tt, args, at), tt) (reply-val (v .reply)) (v .reply) (v .session, (zs, (tt, tt)))
-      (tt, (end .1, (tt, tt)))) $
-      says ! (subst (Opens h ys x (v .reply) (v .session)) (sym (end .0)) so) $ split ! $ nothing ! $ move ! (1 ∷ 0 ∷ []) $
-      join ! $ move ! (3 ∷ 0 ∷ []) $ join ! $ frame ! $
-      nothing ! $ owned ! B.the-row (Is B.the-row) (LL.makes B.the-type B′.the-plain 𝓤 H A) x _ gx $ fjoin ! $
-      move ! (1 ∷ 0 ∷ []) $ fjoin ! $ move ! (1 ∷ 0 ∷ []) $ fjoin ! $ frame ! $
-      owned ! Y.the-row (Is Y.the-row) (EL.makes Y.the-type Y′.the-plain 𝓤 H A) (v .reply) _ (is-reply v is) $ done !
+    abbrev s : Val
+    s = slice-val b′ o′ ys
 
-  module _ (C : Calls 𝓤 H) (Λ : Loops 𝓤 H) (fm : FmC 𝓤 H (W .laws) C)
-      (known-opened : Triple 𝓤 (C #opened) (OpenedSays 𝓤 H A mem run))
-      (known-blank : Triple 𝓤 (C #blank) (BlankSays 𝓤 H A mem run)) where
+    abbrev at : List Val × (List Val × (List Val × Unit {0}))
+    at = (vptr b o ∷ [], (s ∷ [], (table-val x ∷ [], tt)))
+
+    abbrev Post : Val → SProp 𝓤
+    Post = walkOf 𝓤 H A open′.ended stayed (open′.clauses 𝓤 H A mem run) .post (((κ, (κ′, tt)), (q, (q′, tt)), tt, args, at), tt)
+
+    exits : (v : Opened) (zs : List Entry) → IsOpened v → Opens h ys x (v .reply) (v .session) (blanked (v .blanks) ys)
+        → Ends ys (blanked (v .blanks) ys) zs
+        → ent 𝓤 (⋆ 𝓤 H A (Left κ′ q′ γ′ zs ∷ ‵ (Holds S.the-type (named 0) κ b o γ (v .session)) ∷ ‵ (flft κ q) ∷ []))
+        (Post (reply-val (v .reply)))
+    exits v zs is so end =
+        qed W (Left κ′ q′ γ′ zs ∷ ‵ (Holds S.the-type (named 0) κ b o γ (v .session)) ∷ ‵ (flft κ q) ∷ []) ∵
+        suffices ! _ (ends-at 𝓤 H A open′.ended stayed (open′.clauses 𝓤 H A mem run) W
+        (((κ, (κ′, tt)), (q, (q′, tt)), tt, args, at), tt) (reply-val (v .reply)) (v .reply) (v .session, (zs, (tt, tt)))
+        (tt, (end .1, (tt, tt)))) $
+        says ! (subst (Opens h ys x (v .reply) (v .session)) (sym (end .0)) so) $ split ! $ nothing ! $ move ! (1 ∷ 0 ∷ []) $
+        join ! $ move ! (3 ∷ 0 ∷ []) $ join ! $ frame ! $
+        nothing ! $ table-owned ! x gx $ fjoin ! $
+        move ! (1 ∷ 0 ∷ []) $ fjoin ! $ move ! (1 ∷ 0 ∷ []) $ fjoin ! $ frame ! $
+        owned ! Y.the-row (Is Y.the-row) (EL.makes Y.the-type Y′.the-plain 𝓤 H A) (v .reply) _ (is-reply v is) $ done !
+
     walk : Room E.the-row (length ys) → ent 𝓤 (onEntry 𝓤 H A open′.signature (κ, (κ′, tt)) (q, (q′, tt)) args at)
         (WpFn 𝓤 H C Λ code.function (vptr b o ∷ s ∷ table-val x ∷ []) Post)
     walk room =
@@ -138,7 +150,8 @@ module _ {M : Type 1} (𝓤 : URA M) (H : Heap 𝓤) (A : Atoms 𝓤) (W : Given
         (typed-session W h g) $
         sets ! 11 refl refl (of-opd ! (field-of ! 19 1 refl refl refl)) (tt, record { fits = room .0 }) $
         answered ! fm (opened-answers 𝓤 H A mem run W fm known-opened h (length ys) x g (room .0) gx)
-        (and-then ! (value-of ! 13 refl) (and-then ! (value-of ! 11 refl) (and-then ! (value-of ! 17 refl) (no-more !)))) (λ v made.
+        (and-then ! (value-of ! 13 refl) (and-then ! (value-of ! 11 refl) (and-then ! (value-of ! 17 refl) (no-more !))))
+        (λ v made.
         puts ! 15 refl refl (typed-opened W v (made .0)) $
         assigns ! (of-opd ! (field-of ! 15 1 refl refl refl)) (from ! (hop ! (look ! 21 refl) (stop !)))
         (store-raw ! 0 refl (typed-session W (v .session) (is-session v (made .0)))) $
@@ -159,35 +172,21 @@ module _ {M : Type 1} (𝓤 : URA M) (H : Heap 𝓤) (A : Atoms 𝓤) (W : Given
         freed ! 3 refl refl $ free0 ! $
         by ! (exits v zs (made .0) (open-opens h ys x v (made .1)) end))))))))))))))
 
-module _ {M : Type 1} (𝓤 : URA M) (H : Heap 𝓤) (A : Atoms 𝓤) (W : Given 𝓤 H A) (mem : Memory → SProp 𝓤)
-    (run : Routine → Fun 𝓤) where
-  open-walks : (C : Calls 𝓤 H) (Λ : Loops 𝓤 H) → FmC 𝓤 H (W .laws) C → Triple 𝓤 (C #opened) (OpenedSays 𝓤 H A mem run)
-      → Triple 𝓤 (C #blank) (BlankSays 𝓤 H A mem run)
-      → Walks 𝓤 H A open′.ended stayed (WpFn 𝓤 H C Λ code.function) (open′.clauses 𝓤 H A mem run)
-  open-walks C Λ fm known-opened known-blank =
-      walked 𝓤 H A open′.ended stayed (open′.clauses 𝓤 H A mem run) (WpFn 𝓤 H C Λ code.function)
+  open-meets : Meets 𝓤 H A open′.signature (WpFn 𝓤 H C Λ code.function) (open′.spec 𝓤 H A mem run)
+  open-meets = walk-meets 𝓤 H A open′.ended stayed W (
+    goes-ref 𝓤 H A W 2 0 tt (plain (λ _. S.the-row)),
+    (goes-gave-slice 𝓤 H A W 2 1 tt (plain (λ _. E.the-row)), (goes-none 𝓤 H A W 2 (λ _. B.the-row) yes (λ κs x f. refl), tt)),
+  )
+      (open′.clauses 𝓤 H A mem run) (WpFn 𝓤 H C Λ code.function) (WpFn-mono 𝓤 H (W .laws) 𝓣 code.function)
+      (walked 𝓤 H A open′.ended stayed (open′.clauses 𝓤 H A mem run) (WpFn 𝓤 H C Λ code.function)
       (λ κs. (ptr-vals, (slice-vals, (LL.vals B.the-type B′.the-laws, tt))))
       (λ κs. (
         mut-tells (named 0) (κs .0) S.the-row,
         (mut-slice-tells (named 1) (κs .1 .0) E.the-row, (LL.tells B.the-type B′.the-laws, tt)),
       ))
       (λ κs qs bounds a _ are. via 𝓤 _ (fst∗ 𝓤 _ (emp 𝓤))
-      (walk 𝓤 H A W mem run (κs .0) (κs .1 .0) (qs .0) (qs .1 .0) (a .0 .ptr .0) (a .0 .ptr .1) (a .0 .name) (a .0 .now)
-      (a .1 .0 .ptr .0) (a .1 .0 .ptr .1) (a .1 .0 .name) (a .1 .0 .now) (a .1 .1 .0) (are .1 .1 .0) C Λ fm known-opened
-      known-blank (are .1 .0 .0 .1)))
-
-  goes : AllGo 𝓤 H A W 2 (open′.signature .params) (open′.ended .kept) stayed
-  goes = (
-    goes-ref 𝓤 H A W 2 0 tt (plain (λ _. S.the-row)),
-    (goes-gave-slice 𝓤 H A W 2 1 tt (plain (λ _. E.the-row)), (goes-none 𝓤 H A W 2 (λ _. B.the-row) yes (λ κs x f. refl), tt)),
-  )
-
-  open-meets : (𝓣 : Tables 𝓤 H) → Triple 𝓤 (𝓣 .C #opened) (OpenedSays 𝓤 H A mem run)
-      → Triple 𝓤 (𝓣 .C #blank) (BlankSays 𝓤 H A mem run)
-      → Meets 𝓤 H A open′.signature (WpFn 𝓤 H (𝓣 .C) (𝓣 .Λ) code.function) (open′.spec 𝓤 H A mem run)
-  open-meets 𝓣 known-opened known-blank = walk-meets 𝓤 H A open′.ended stayed W goes (open′.clauses 𝓤 H A mem run)
-      (WpFn 𝓤 H (𝓣 .C) (𝓣 .Λ) code.function) (WpFn-mono 𝓤 H (W .laws) 𝓣 code.function)
-      (open-walks (𝓣 .C) (𝓣 .Λ) (fmOf 𝓤 H (W .laws) 𝓣) known-opened known-blank)
+      (walk (κs .0) (κs .1 .0) (qs .0) (qs .1 .0) (a .0 .ptr .0) (a .0 .ptr .1) (a .0 .name) (a .0 .now)
+      (a .1 .0 .ptr .0) (a .1 .0 .ptr .1) (a .1 .0 .name) (a .1 .0 .now) (a .1 .1 .0) (are .1 .1 .0) (are .1 .0 .0 .1))))
 
 pub open-spec : {M : Type 1} → stated.statement M
 unfolding code.routine tablesOf

@@ -36,7 +36,8 @@ use Rattle.session.proofs.lists.take_out.Symbol as take-out-def
 use Rattle.session.proofs.lists.take_out.Symbol.{name as #take-out}
 use Rattle.session.proofs.lists.take_out.Met as take-out-thm
 use Rattle.session.proofs.Values.{IsWithdrawn, typed-withdrawn}
-use Rattle.session.proofs.Deciding.{LookForSays, WithdrawnSays, look-for-answers, withdrawn-answers}
+use Rattle.session.proofs.Deciding.{WithdrawnSays, withdrawn-answers}
+use Rattle.session.proofs.StandingCalls.{LookForSays, look-for-answers}
 use Rattle.session.proofs.ListCalls.{FindSays, TakeOutSays}
 use Rattle.steps.proofs.WithdrawServed.{withdraw-withdraws}
 use Rattle.session.proofs.FinishWithdraw.{Taking, Known, taking-meets}
@@ -85,7 +86,7 @@ module _ {M : Type 1} (𝓤 : URA M) (H : Heap 𝓤) (A : Atoms 𝓤) (W : Given
         → Triple 𝓤 (𝓣 .C #find) (FindSays 𝓤 H A mem run) → Triple 𝓤 (𝓣 .C #take-out) (TakeOutSays 𝓤 H A mem run)
         → Meets 𝓤 H A withdraw′.signature (WpFn 𝓤 H (𝓣 .C) (𝓣 .Λ) code.function) (withdraw′.spec 𝓤 H A mem run)
     withdraw-meets known-start known-decide known-find known-take-out = taking-meets taking 𝓤 H A W known mem run 𝓣
-        (look-for-answers 𝓤 H A mem run W fm known-start)
+        (λ h x gh gx. look-for-answers 𝓤 H A mem run W fm h x gh gx known-start)
         (λ h n f x gh gn gf gx. withdrawn-answers 𝓤 H A mem run W fm h n f x gh gn gf gx known-decide) known-find known-take-out
       where
         fm : FmC 𝓤 H (W .laws) (𝓣 .C)
@@ -97,8 +98,8 @@ withdraw-spec 𝓤 H 𝓜 𝓖 𝓡 =
     entered 𝓤 H (tripleOf 𝓤 H (𝓖 .A) withdraw′.signature (withdraw′.spec 𝓤 H (𝓖 .A) (𝓜 .mem) (𝓡 .run)))
     (tables 𝓤 H 𝓜 𝓡 code.env .C) (tables 𝓤 H 𝓜 𝓡 code.env .Λ) #withdraw code.function (code.unfolded 𝓤 H 𝓜 𝓡)
     (withdraw-meets 𝓤 H (𝓖 .A) (givenOf 𝓤 H 𝓜 𝓖) (𝓜 .mem) (𝓡 .run) (tablesOf 𝓤 H 𝓜 (tables 𝓤 H 𝓜 𝓡 code.env))
-    (cited 𝓤 H (LookForSays 𝓤 H (𝓖 .A) (𝓜 .mem) (𝓡 .run)) 𝓜 𝓡 code.env #look-for start-def.routine code.calls-standing·searches·look-for
-    (start-thm.met 𝓤 H 𝓜 𝓖 𝓡))
+    (cited 𝓤 H (LookForSays 𝓤 H (𝓖 .A) (𝓜 .mem) (𝓡 .run)) 𝓜 𝓡 code.env #look-for start-def.routine
+    code.calls-standing·searches·look-for (start-thm.met 𝓤 H 𝓜 𝓖 𝓡))
     (cited 𝓤 H (WithdrawnSays 𝓤 H (𝓖 .A) (𝓜 .mem) (𝓡 .run)) 𝓜 𝓡 code.env #withdrawn decide-def.routine
     code.calls-steps·calls·withdrawn (decide-thm.met 𝓤 H 𝓜 𝓖 𝓡))
     (cited 𝓤 H (FindSays 𝓤 H (𝓖 .A) (𝓜 .mem) (𝓡 .run)) 𝓜 𝓡 code.env #find find-def.routine code.calls-session·lists·find
