@@ -78,7 +78,8 @@ module _ {M : Type 1} {𝓤 : URA M} {H : Heap 𝓤} {A : Atoms 𝓤} {K : Type 
 module _ {M : Type 1} {𝓤 : URA M} {H : Heap 𝓤} {A : Atoms 𝓤} (W : Given 𝓤 H A) {C : Calls 𝓤 H} where
   -- what is handed over is first made into something else
   pub prepared : {f : Name} {vs : List Val} {i : Item 𝓤} {X : Type 0} {val : X → Val} {φ : X → Type 0}
-      {j : X → Item 𝓤} {Y : Type 0} (k : Y → Item 𝓤) → ent 𝓤 (mean 𝓤 H A i) (H .⇛ (mean 𝓤 H A (some k))) → ((y : Y) → Returns 𝓤 H A C f vs (k y) val φ j)
+      {j : X → Item 𝓤} {Y : Type 0} (k : Y → Item 𝓤) → ent 𝓤 (mean 𝓤 H A i) (H .⇛ (mean 𝓤 H A (some k)))
+      → ((y : Y) → Returns 𝓤 H A C f vs (k y) val φ j)
       → Returns 𝓤 H A C f vs i val φ j
   prepared {f} {vs} {i} {X} {val} {φ} {j} k makes r = record {
     met = qed W (i ∷ []) ∵ updating ! $ use1 W (later (some k)) makes $ await ! tt $ pick ! (λ y.

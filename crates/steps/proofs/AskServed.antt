@@ -129,7 +129,8 @@ module _ (s : Session) (l : List Entry) (t : Terminal) (n : Name) (sound : Bool)
         past-running there (λ r. false≢true (sym idle ∙ runs-says (s .state) t .1 r)) (isFound (f .own)) refl
 
     -- 11, or on
-    named : (b : Bool) → known ≡ b → Good (askNamed s (length l) f t (cond b (At (record { 0 = numberOf (namesOf (s .table)) (key n) })) Nowhere))
+    named : (b : Bool) → known ≡ b
+        → Good (askNamed s (length l) f t (cond b (At (record { 0 = numberOf (namesOf (s .table)) (key n) })) Nowhere))
     unfolding askKnown
     named false absent =
         refused-by 11
