@@ -40,7 +40,7 @@ answer-injective (Refuses a) (Refuses b) e =
     ap₂ (λ (n k : ℕ). Refuses (record { number = n; place = k })) number place
 
 -- an accepted text's expression is within the limits of a table
-text-limited : (text : List ℕ) (e : Expr) → Accepted text e → Limited e
+pub text-limited : (text : List ℕ) (e : Expr) → Accepted text e → Limited e
 text-limited text e a =
     let same = names-as-written (a .symbols) e (a .whole) in
     record {

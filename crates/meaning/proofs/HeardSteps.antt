@@ -12,9 +12,10 @@ use Rattle.meaning.specs.Calls.{AskReply, FinishReply}
 use Rattle.meaning.specs.Calls.Reply.{done}
 use Rattle.meaning.specs.Calls.Exchange.{asked, finished, withdrew}
 use Rattle.meaning.specs.Heard.{Account, grantedNames, hearGranted, hearDelayed, hearFinished, hearWithdrawn, hear, count}
-use Rattle.meaning.specs.LinePromises.{Runs, Waits, Asked, Finished, Withdrawn}
-use Rattle.meaning.specs.LinePromises.Asked.{is-granted, is-delayed}
-use Rattle.meaning.specs.LinePromises.Finished.{longest-goes, nobody-goes}
+use Rattle.meaning.specs.LinePromises.{Says}
+use Rattle.meaning.specs.Demand.{Runs, Waits, Asked, Finished, Withdrawn}
+use Rattle.meaning.specs.Demand.Asked.{is-granted, is-delayed}
+use Rattle.meaning.specs.Demand.Finished.{longest-goes, nobody-goes}
 use Rattle.meaning.proofs.WaitingLaws.{Fails, member-around, Distinct, distinct-without, distinct-with, own-entry, without-own, fails-with}
 use Rattle.meaning.proofs.HeardCounts.{count-append, count-between}
 use Rattle.meaning.proofs.LineAnswers.{less-unfinished}
@@ -30,7 +31,7 @@ module _ (permitted : List Name → Bool) where
         ≡ count n (grantedNames a) + count n (namesOf (a .withdrawals)) + count n (namesOf (a .waiters))
 
   module _ (a : Account) (s : Sound a) where
-    pub asked-sound : (t : ℕ) (n : Name) {r : AskReply} → ¬ Waits a t → Asked permitted a (key n) r → Sound (hear a (asked t n (done r)))
+    pub asked-sound : (t : ℕ) (n : Name) {r : AskReply} → ¬ Waits a t → Asked (Says permitted) a (key n) r → Sound (hear a (asked t n (done r)))
     unfolding hear hearGranted hearDelayed
     asked-sound t n w (is-granted q g) =
         record {
@@ -49,7 +50,7 @@ module _ (permitted : List Name → Bool) where
           conserved = λ k. simp (map-append, count-append) (omega (arith, s .conserved k));
         }
 
-    pub finished-sound : (t : ℕ) (r : FinishReply) → Runs a t → Finished permitted a r → Sound (hear a (finished t (done r)))
+    pub finished-sound : (t : ℕ) (r : FinishReply) → Runs a t → Finished (Says permitted) a r → Sound (hear a (finished t (done r)))
     unfolding hear hearFinished
     finished-sound t r m (longest-goes ahead after e l o p g x) =
         rw (g, less-unfinished t (a .unfinished) (s .one) m, own-entry ahead after e l (s .distinct), without-own ahead after e l)

@@ -14,7 +14,9 @@ pub mod Heart
 pub mod Fitting
 pub mod Occurring
 pub mod Rewritings
+pub mod Reduction
 pub mod Samples
+pub mod DemandCarries
 pub mod WaitingLaws
 pub mod HeardCounts
 pub mod LineRefusals
@@ -22,4 +24,5 @@ pub mod LineAnswers
 pub mod HeardSteps
 pub mod LineTalk
 pub mod LineReads
+pub mod LineHeard
 pub mod LineKeeps

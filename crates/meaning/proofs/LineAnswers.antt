@@ -7,7 +7,7 @@ use Prim.Native.Nat.{ℕ, _≤_}
 use native.Mathlib.Omega.{arith}
 use lib.Dec.{eqb}
 use lib.ListN.{length}
-use borrow.Author.Tests.{eqb-true, eqb-false, eq-eqb}
+use borrow.Author.Tests.{eqb-true, eq-eqb}
 use Rattle.meaning.specs.Names.{Name, key}
 use Rattle.meaning.specs.Waiting.{terminalsOf, Entry, Found, entryOf, put}
 use Rattle.meaning.specs.Waiting.Found.{nobody, at}
@@ -17,10 +17,11 @@ use Rattle.meaning.specs.Calls.AskReply.{granted, delayed}
 use Rattle.meaning.specs.Calls.Exchange.{asked, finished, withdrew}
 use Rattle.meaning.specs.Line.{Line, free, waits, granting, askStep, finishStep, withdrawStep}
 use Rattle.meaning.specs.Heard.{Account, grantedNames, less, gone, unfinishedIn, hearGranted, hearDelayed, hearFinished, hearWithdrawn, hear, lineOf}
-use Rattle.meaning.specs.LinePromises.{Runs, Waits, Asked, Finished, Withdrawn}
-use Rattle.meaning.specs.LinePromises.Asked.{is-granted, is-delayed}
-use Rattle.meaning.specs.LinePromises.Finished.{longest-goes, nobody-goes}
-use Rattle.meaning.proofs.WaitingLaws.{Finds, seek-finds, waits-reads, Distinct, own-entry, put-last}
+use Rattle.meaning.specs.LinePromises.{Says}
+use Rattle.meaning.specs.Demand.{Runs, Waits, Asked, Finished, Withdrawn}
+use Rattle.meaning.specs.Demand.Asked.{is-granted, is-delayed}
+use Rattle.meaning.specs.Demand.Finished.{longest-goes, nobody-goes}
+use Rattle.meaning.proofs.WaitingLaws.{not-true, Finds, seek-finds, waits-reads, Distinct, own-entry, put-last}
 
 -- the entry that an ask makes
 abbrev pub asking : ℕ → Name → Entry
@@ -36,7 +37,7 @@ less-unfinished t (u ∷ v ∷ us) o m = absurd (omega arith)
 module _ (permitted : List Name → Bool) (known : Name → Bool) (a : Account) where
   -- an ask was answered as promised with r .0, and r .1 is the line that is heard then
   abbrev Answers : ℕ → Name → AskReply × Line → Type 0
-  Answers t n r = Asked permitted a (key n) (r .0) × (r .1 ≡ lineOf (hear a (asked t n (done (r .0)))))
+  Answers t n r = Asked (Says permitted) a (key n) (r .0) × (r .1 ≡ lineOf (hear a (asked t n (done (r .0)))))
 
   ask-goes : (t : ℕ) (n : Name) (us : List ℕ) (goes : Bool) → a .unfinished ≡ us → permitted (grantedNames a ++ key n ∷ []) ≡ goes
       → Answers t n
@@ -46,7 +47,7 @@ module _ (permitted : List Name → Bool) (known : Name → Bool) (a : Account) 
       ))
   unfolding hear hearGranted hearDelayed
   ask-goes t n [] true q e = (is-granted q e, rw (q, map-append))
-  ask-goes t n [] false q e = (is-delayed (λ z. e), rw put-last)
+  ask-goes t n [] false q e = (is-delayed (λ z. not-true e), rw put-last)
   ask-goes t n (u ∷ us) g q e = (is-delayed (λ z. absurd (cons≢nil (sym q ∙ z))), rw put-last)
 
   pub ask-answers : (t : ℕ) (n : Name) → Answers t n (askStep permitted known (lineOf a) (asking t n))
@@ -54,7 +55,7 @@ module _ (permitted : List Name → Bool) (known : Name → Bool) (a : Account) 
   ask-answers t n = ask-goes t n (a .unfinished) _ refl refl
 
   pub finish-answers : (f : Found) → Finds (λ e. permitted (grantedNames a ++ e .name ∷ [])) (a .waiters) f
-      → Finished permitted a (finishStep permitted known (lineOf a) f .0)
+      → Finished (Says permitted) a (finishStep permitted known (lineOf a) f .0)
   finish-answers nobody h = nobody-goes h refl refl
   finish-answers (at p e) h = longest-goes (h .ahead) (h .after) e (h .listed) (h .others) (h .passes) refl (omega (arith, h .place))
 
@@ -75,7 +76,7 @@ module _ (permitted : List Name → Bool) (known : Name → Bool) (a : Account) 
         after = h .after;
         listed = h .listed;
         own = eqb-true (d .terminal) t (h .passes);
-        none-ahead = λ m. let (c, k, q) = Memᴰ·of-map (λ (e : Entry). e .terminal) (h .ahead) m in eqb-false (c .terminal) t (h .others c k) q;
+        none-ahead = λ m. let (c, k, q) = Memᴰ·of-map (λ (e : Entry). e .terminal) (h .ahead) m in h .others c k (eq-eqb (c .terminal) t q);
         place = h .place;
       }
 

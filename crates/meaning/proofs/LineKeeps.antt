@@ -1,121 +1,70 @@
--- The promises of the line: what was heard of it is sound and is the line, call by call, so each call is answered as from the line that was
--- heard.
-use mathlib.Core.Path.{_≡_, refl, ap, subst}
-use mathlib.Core.Bool.{Bool}
-use mathlib.Core.List.{List, [], _∷_, _++_, List·Memᴰ·not-nil}
-use mathlib.Core.Option.{Option, some, none}
-use Prim.Native.Nat.{ℕ}
-use native.Mathlib.Omega.{arith}
+-- The promises of the line. What can be seen of it are the replies to some calls, and so what was heard is sound and is the line; and the
+-- last of those replies is what its call is told by the line that was heard before.
+use mathlib.Core.Path.{_≡_, refl, sym, ap, _∙_}
+use mathlib.Core.Bool.{Bool, true}
+use mathlib.Core.List.{List, [], _∷_, _++_, map}
 use Rattle.meaning.specs.Names.{Name, key}
-use Rattle.meaning.specs.Waiting.{entryOf}
-use Rattle.meaning.specs.Calls.{Call, AskReply, FinishReply, refusalIn}
-use Rattle.meaning.specs.Calls.Call.{ask, finish, withdraw}
-use Rattle.meaning.specs.Calls.Reply.{done}
-use Rattle.meaning.specs.Calls.Exchange.{asked, finished, withdrew}
-use Rattle.meaning.specs.Line.{Line, tested, askStep, finishStep, withdrawStep, picked, refusal, opening, step, talk, after}
-use Rattle.meaning.specs.Heard.{Account, grantedNames, nothing, hear, hearAll, account, count, lineOf}
-use Rattle.meaning.specs.LinePromises.{Asked, Finished, Withdrawn, heardOf, lineAfter, Line-keeps-its-promises}
-use Rattle.meaning.proofs.WaitingLaws.{Finds, seek-finds}
-use Rattle.meaning.proofs.LineRefusals.{Tested, call-tested, refused-if-due}
-use Rattle.meaning.proofs.LineAnswers.{asking, ask-answers, finish-answers, finish-leaves, withdraw-answers, withdraw-leaves}
-use Rattle.meaning.proofs.HeardSteps.{Sound, asked-sound, finished-sound, withdrawn-sound}
-use Rattle.meaning.proofs.LineTalk.{step-tells, refused-changes-nothing, talk-goes-on}
+use Rattle.meaning.specs.Waiting.{Entry}
+use Rattle.meaning.specs.Calls.{Exchange, callIn, refusalIn}
+use Rattle.meaning.specs.Line.{opening, step, talk}
+use Rattle.meaning.specs.Heard.{account, lineOf}
+use Rattle.meaning.specs.Demand.{Demand-3}
+use Rattle.meaning.specs.LinePromises.{Says, lineAfter, Seen, Line-keeps-its-promises}
+use Rattle.meaning.proofs.LineRefusals.{refused-if-due}
+use Rattle.meaning.proofs.HeardSteps.{Sound}
+use Rattle.meaning.proofs.LineTalk.{step-tells, refused-changes-nothing, talk-goes-on, talk-calls, talk-splits, first-told}
+use Rattle.meaning.proofs.LineHeard.{ask-told, finish-told, withdraw-told, calls-heard}
 
 module _ (permitted : List Name → Bool) (known : Name → Bool) where
-  -- a is sound, and shows all of line l
-  abbrev Heard : Line → Account → Type 0
-  Heard l a = Sound permitted a × (l ≡ lineOf a)
+  -- what was seen is sound, and shows who waits
+  seen-heard : {xs : List Exchange} {es : List Entry} → Seen permitted known xs es → Sound permitted (account xs) × (es ≡ account xs .waiters)
+  seen-heard h = let (s, q) = calls-heard permitted known (h .calls) in rw (← h .replies, ← h .entries) (s, ap (λ l. l .waiting) q)
 
-  picked-finds : (a : Account) → Finds (λ e. permitted (grantedNames a ++ e .name ∷ [])) (a .waiters) (picked permitted known (lineOf a))
-  unfolding picked
-  picked-finds a = seek-finds _ (a .waiters)
+  -- what comes first was seen before
+  earlier : (xs ys : List Exchange) (es : List Entry) → Seen permitted known (xs ++ ys) es → (before : List Entry) × Seen permitted known xs before
+  earlier xs ys es h =
+      let (bs, ds, p, q) = talk-splits permitted known opening (h .calls) xs ys (h .replies) in
+      (lineAfter permitted known bs .waiting, record { calls = bs; replies = p; entries = refl })
 
-  module _ (a : Account) (s : Sound permitted a) where
-    ask-heard : (t : ℕ) (n : Name) (o : Option ℕ) → Tested known a (ask t n) o
-        → let r = tested (lineOf a) o (askStep permitted known (lineOf a) (asking t n)) in Heard (r .1) (hear a (asked t n (r .0)))
-    unfolding hear
-    ask-heard t n none w = let x = ask-answers permitted known a t n in (asked-sound permitted a s t n w (x .0), x .1)
-    ask-heard t n (some m) d = (s, refl)
+  -- the last call was told what the line that was heard before it tells
+  last-told : (xs : List Exchange) (x : Exchange) {es : List Entry} → Seen permitted known (xs ++ x ∷ []) es
+      → Sound permitted (account xs) × (step permitted known (lineOf (account xs)) (callIn x) .0 ≡ x)
+  last-told xs x h =
+      let (bs, ds, p, q) = talk-splits permitted known opening (h .calls) xs (x ∷ []) (h .replies) in
+      let (s, l) = calls-heard permitted known bs in
+      rw (← p) (s, rw (← l) (first-told permitted known (lineAfter permitted known bs) ds x [] q))
 
-    finish-heard : (t : ℕ) (o : Option ℕ) → Tested known a (finish t) o
-        → let r = tested (lineOf a) o (finishStep permitted known (lineOf a) (picked permitted known (lineOf a))) in
-        Heard (r .1) (hear a (finished t (r .0)))
-    unfolding hear
-    finish-heard t none m =
-        let f = picked permitted known (lineOf a) in (
-          finished-sound permitted a s t _ m (finish-answers permitted known a f (picked-finds a)),
-          finish-leaves permitted known a t (s .one) (s .distinct) m f (picked-finds a),
-        )
-    finish-heard t (some k) d = (s, refl)
+  -- what was seen shows the calls
+  seen-calls : {xs : List Exchange} {es : List Entry} (h : Seen permitted known xs es) → h .calls ≡ map callIn xs
+  seen-calls h = sym (talk-calls permitted known opening (h .calls)) ∙ ap (map callIn) (h .replies)
 
-    withdraw-heard : (t : ℕ) (o : Option ℕ) → Tested known a (withdraw t) o
-        → let r = tested (lineOf a) o (withdrawStep permitted known (lineOf a) (entryOf t (a .waiters))) in
-        Heard (r .1) (hear a (withdrew t (r .0)))
-    unfolding hear
-    withdraw-heard t none w = (withdrawn-sound permitted a s t _ (withdraw-answers permitted known a t w), withdraw-leaves permitted known a t)
-    withdraw-heard t (some m) d = (s, refl)
-
-    step-heard : (c : Call) → let r = step permitted known (lineOf a) c in Heard (r .1) (hear a (r .0))
-    unfolding step
-    step-heard (ask t n) = ask-heard t n (refusal permitted known (lineOf a) (ask t n)) (call-tested permitted known a (s .one) (ask t n))
-    step-heard (finish t) = finish-heard t (refusal permitted known (lineOf a) (finish t)) (call-tested permitted known a (s .one) (finish t))
-    step-heard (withdraw t) = withdraw-heard t (refusal permitted known (lineOf a) (withdraw t)) (call-tested permitted known a (s .one) (withdraw t))
-
-    -- a call that is done was not refused
-    not-refused : (c : Call) → refusalIn (step permitted known (lineOf a) c .0) ≡ none → refusal permitted known (lineOf a) c ≡ none
-    not-refused c e = rw step-tells at e
-
-    ask-told : (t : ℕ) (n : Name) (r : AskReply) → step permitted known (lineOf a) (ask t n) .0 ≡ asked t n (done r) → Asked permitted a (key n) r
-    unfolding step
-    ask-told t n r e =
-        let p = not-refused (ask t n) (ap refusalIn e) in
-        let q : askStep permitted known (lineOf a) (asking t n) .0 ≡ r = cc in
-        rw (← q) (ask-answers permitted known a t n .0)
-
-    finish-told : (t : ℕ) (r : FinishReply) → step permitted known (lineOf a) (finish t) .0 ≡ finished t (done r) → Finished permitted a r
-    unfolding step
-    finish-told t r e =
-        let f = picked permitted known (lineOf a) in
-        let p = not-refused (finish t) (ap refusalIn e) in
-        let q : finishStep permitted known (lineOf a) f .0 ≡ r = cc in
-        rw (← q) (finish-answers permitted known a f (picked-finds a))
-
-    withdraw-told : (t p : ℕ) → step permitted known (lineOf a) (withdraw t) .0 ≡ withdrew t (done p) → Withdrawn a t p
-    unfolding step
-    withdraw-told t p e =
-        let o = not-refused (withdraw t) (ap refusalIn e) in
-        let q : withdrawStep permitted known (lineOf a) (entryOf t (a .waiters)) .0 ≡ p = cc in
-        rw (← q) (withdraw-answers permitted known a t (subst (Tested known a (withdraw t)) o (call-tested permitted known a (s .one) (withdraw t))))
-
-  talk-heard : (a : Account) (cs : List Call) → Sound permitted a
-      → Heard (after permitted known (lineOf a) cs) (hearAll a (talk permitted known (lineOf a) cs))
-  unfolding talk after hearAll
-  talk-heard a [] s = (s, refl)
-  talk-heard a (c ∷ cs) s =
-      let x = step-heard a s c in
-      rw (x .1) (talk-heard (hear a (step permitted known (lineOf a) c .0)) cs (x .0))
-
-  opening-sound : Sound permitted nothing
-  unfolding count
-  opening-sound =
-      record { one = omega arith; distinct = tt; lawful = λ e. e; settled = λ i e m. absurd (List·Memᴰ·not-nil m); conserved = λ n. refl }
-
-  calls-heard : (cs : List Call) → Heard (lineAfter permitted known cs) (heardOf permitted known cs)
-  unfolding account
-  calls-heard cs = talk-heard nothing cs opening-sound
+  keeps-demand-3 : permitted [] ≡ true → Demand-3 (Seen permitted known) (Says permitted) (Says known)
+  keeps-demand-3 empty =
+      record {
+        all-answered = λ cs. (
+          talk permitted known opening cs,
+          lineAfter permitted known cs .waiting,
+          record { calls = cs; replies = refl; entries = refl },
+          talk-calls permitted known opening cs,
+        );
+        answered-alike = λ xs xs′ es es′ h h′ e. let q : h .calls ≡ h′ .calls = cc (seen-calls h, seen-calls h′) in (cc, cc);
+        seen-before = earlier;
+        refused-exactly = λ xs x es m h. let (s, e) = last-told xs x h in
+            rw (ap refusalIn (sym e) ∙ step-tells permitted known _ _) (refused-if-due permitted known (account xs) (s .one) (callIn x) m);
+        orderly = λ xs es h. let (s, q) = seen-heard h in
+            record { grants-permitted = s .lawful empty; at-most-one-unfinished = s .one; nobody-permitted-waits = s .settled };
+        ask-answered = λ xs es t n r h. let (s, e) = last-told xs _ h in ask-told permitted known _ s t n r e;
+        finish-answered = λ xs es t r h. let (s, e) = last-told xs _ h in finish-told permitted known _ s t r e;
+        withdraw-answered = λ xs es t p h. let (s, e) = last-told xs _ h in withdraw-told permitted known _ s t p e;
+        entries-heard = λ xs es h. seen-heard h .1;
+        conserved = λ xs es n h. let (s, q) = seen-heard h in rw q (s .conserved (key n));
+      }
 
 pub line-keeps-its-promises : Line-keeps-its-promises
 line-keeps-its-promises permitted known =
     record {
       refused-changes-nothing = refused-changes-nothing permitted known;
-      refused-exactly = λ cs c m. let (s, q) = calls-heard permitted known cs in
-          rw (step-tells, q) (refused-if-due permitted known (heardOf permitted known cs) (s .one) c m);
-      ask-answered = λ cs t n r e. let (s, q) = calls-heard permitted known cs in ask-told permitted known _ s t n r (rw q at e);
-      finish-answered = λ cs t r e. let (s, q) = calls-heard permitted known cs in finish-told permitted known _ s t r (rw q at e);
-      withdraw-answered = λ cs t p e. let (s, q) = calls-heard permitted known cs in withdraw-told permitted known _ s t p (rw q at e);
       talk-goes-on = talk-goes-on permitted known opening;
       line-is-heard = λ cs. calls-heard permitted known cs .1;
-      conserved = λ cs n. let (s, q) = calls-heard permitted known cs in rw q (s .conserved (key n));
-      orderly = λ e cs. let (s, q) = calls-heard permitted known cs in
-          record { grants-permitted = s .lawful e; at-most-one-unfinished = s .one; nobody-permitted-waits = s .settled };
+      demanded = keeps-demand-3 permitted known;
     }

@@ -1,9 +1,9 @@
 -- Refusals are given exactly when they are due: each test of a call says what was heard of its terminal, so the cases of the tests are the
 -- cases of `Due`.
-use mathlib.Core.Path.{_≡_, refl, sym, subst, _∙_}
-use mathlib.Core.Bool.{Bool, true, false, cond, not, true≢false, false≢true}
+use mathlib.Core.Path.{_≡_, refl, sym, subst}
+use mathlib.Core.Bool.{Bool, true, false, cond, not, false≢true}
 use mathlib.Core.List.{List, [], _∷_, List·Memᴰ, List·Memᴰ·head, List·Memᴰ·not-nil, List·Memᴰ·eq-of-singleton}
-use mathlib.Core.Logic.{_↔_}
+use mathlib.Core.Logic.{_↔_, Iff·rfl}
 use mathlib.Core.Option.{Option, some, none}
 use Prim.Native.Nat.{ℕ, _≤_}
 use native.Mathlib.Omega.{arith}
@@ -16,13 +16,14 @@ use Rattle.meaning.specs.Calls.{Call}
 use Rattle.meaning.specs.Calls.Call.{ask, finish, withdraw}
 use Rattle.meaning.specs.Line.{runs, waits, refusal}
 use Rattle.meaning.specs.Heard.{Account, unfinishedIn, lineOf}
-use Rattle.meaning.specs.LinePromises.{Runs, Waits, Due}
-use Rattle.meaning.specs.LinePromises.Due.{above-63-asks, above-63-finishes, above-63-withdraws, no-such-operation, asks-while-running, asks-while-waiting, finishes-not-running, withdraws-not-waiting}
-use Rattle.meaning.proofs.WaitingLaws.{waits-reads}
+use Rattle.meaning.specs.LinePromises.{Says}
+use Rattle.meaning.specs.Demand.{Runs, Waits, Due}
+use Rattle.meaning.specs.Demand.Due.{above-63-asks, above-63-finishes, above-63-withdraws, no-such-operation, asks-while-running, asks-while-waiting, finishes-not-running, withdraws-not-waiting}
+use Rattle.meaning.proofs.WaitingLaws.{not-true, waits-reads}
 
 -- a test that reads A is false exactly if A is not
 false-not : {b : Bool} {A : Type 0} → (b ≡ true) ↔ A → b ≡ false → ¬ A
-false-not r e x = true≢false (sym (r .1 x) ∙ e)
+false-not r e x = not-true e (r .1 x)
 
 not-false : (b : Bool) {A : Type 0} → (b ≡ true) ↔ A → ¬ A → b ≡ false
 not-false true r h = absurd (h (r .0 refl))
@@ -41,7 +42,7 @@ Passes a (withdraw t) = Waits a t
 
 abbrev pub Tested : (Name → Bool) → Account → Call → Option ℕ → Type 0
 Tested known a c none = Passes a c
-Tested known a c (some m) = Due known a c m
+Tested known a c (some m) = Due (Says known) a c m
 
 module _ (permitted : List Name → Bool) (known : Name → Bool) (a : Account) (one : length (a .unfinished) ≤ 1) where
   running : (t : ℕ) → (runs (unfinishedIn (a .unfinished)) t ≡ true) ↔ Runs a t
@@ -54,7 +55,7 @@ module _ (permitted : List Name → Bool) (known : Name → Bool) (a : Account) 
       → runs (unfinishedIn (a .unfinished)) t ≡ own → waits (entryOf t (a .waiters)) ≡ listed
       → Tested known a (ask t n) (cond high (some 10) (cond (not knows) (some 11) (cond own (some 12) (cond listed (some 13) none))))
   ask-tested t n true k o w h e r q = above-63-asks t n (ltb-true 63 t h)
-  ask-tested t n false false o w h e r q = no-such-operation t n (ltb-false 63 t h) e
+  ask-tested t n false false o w h e r q = no-such-operation t n (ltb-false 63 t h) (not-true e)
   ask-tested t n false true true w h e r q = asks-while-running t n (ltb-false 63 t h) e (running t .0 r)
   ask-tested t n false true false true h e r q =
       asks-while-waiting t n (ltb-false 63 t h) e (false-not (running t) r) (waiting t .0 q)
@@ -78,17 +79,17 @@ module _ (permitted : List Name → Bool) (known : Name → Bool) (a : Account) 
   call-tested (finish t) = finish-tested t _ _ refl refl
   call-tested (withdraw t) = withdraw-tested t _ _ refl refl
 
-  due-refused : {c : Call} {m : ℕ} → Due known a c m → refusal permitted known (lineOf a) c ≡ some m
+  due-refused : {c : Call} {m : ℕ} → Due (Says known) a c m → refusal permitted known (lineOf a) c ≡ some m
   unfolding refusal
   due-refused (above-63-asks t n h) = rw (lt-ltb 63 t h)
   due-refused (above-63-finishes t h) = rw (lt-ltb 63 t h)
   due-refused (above-63-withdraws t h) = rw (lt-ltb 63 t h)
-  due-refused (no-such-operation t n h u) = rw (le-ltb 63 t h, u)
+  due-refused (no-such-operation t n h u) = rw (le-ltb 63 t h, not-false _ Iff·rfl u)
   due-refused (asks-while-running t n h k r) = rw (le-ltb 63 t h, k, running t .1 r)
   due-refused (asks-while-waiting t n h k r w) =
       rw (le-ltb 63 t h, k, not-false _ (running t) r, waiting t .1 w)
   due-refused (finishes-not-running t h r) = rw (le-ltb 63 t h, not-false _ (running t) r)
   due-refused (withdraws-not-waiting t h w) = rw (le-ltb 63 t h, not-false _ (waiting t) w)
 
-  pub refused-if-due : (c : Call) (m : ℕ) → (refusal permitted known (lineOf a) c ≡ some m) ↔ Due known a c m
+  pub refused-if-due : (c : Call) (m : ℕ) → (refusal permitted known (lineOf a) c ≡ some m) ↔ Due (Says known) a c m
   refused-if-due c m = (λ e. subst (Tested known a c) e (call-tested c), due-refused)

@@ -2,8 +2,8 @@
 -- that key, names behind change no number, and a new name gets the next. Each of the distinct names has its own place for its number.
 use mathlib.Core.Path.{_≡_, refl, sym, ap, _∙_}
 use mathlib.Core.Bool.{Bool, true, false, cond, _||_, false≢true}
-use mathlib.Core.List.{List, [], _∷_, _++_}
-use mathlib.Core.Logic.{_⊎_, inl, inr}
+use mathlib.Core.List.{List, [], _∷_, _++_, map, List·Memᴰ, Memᴰ·map, Memᴰ·of-map, Memᴰ·cast}
+use mathlib.Core.Logic.{_↔_, _⊎_, inl, inr}
 use Prim.Native.Nat.{ℕ, suc, _+_, _≤_, _<_}
 use native.Mathlib.Nat.{not-suc-le-zero}
 use native.Mathlib.Omega.{arith}
@@ -12,7 +12,7 @@ use lib.Seq.{getD-at}
 use Rattle.meaning.specs.Names.{Name, key, same}
 use Rattle.meaning.specs.Operations.{holds, added, distinctAfter, distinct, numberOf}
 use Rattle.meaning.proofs.NameLaws.{same-equal, same-self}
-use Rattle.meaning.proofs.OperationLaws.{at-held, added-known, added-new}
+use Rattle.meaning.proofs.OperationLaws.{at-member, at-held, member-held, added-known, added-new}
 use Rattle.meaning.proofs.SetLaws.{below-or-not}
 
 -- the number of a held key is one of the numbers, and the name at that number has the key
@@ -39,6 +39,13 @@ number-held (d ∷ ds) k h = go (same (key d) k) refl h (number-held ds k)
 -- so a held key stands somewhere, and different keys have different numbers
 pub held-at : (ds : List Name) (k : Name) → holds ds k ≡ true → (i : ℕ) × (i < length ds) × (key (getD ds i []) ≡ k)
 held-at ds k h = (numberOf ds k, held-below ds k h, number-held ds k h)
+
+-- the keys that a list holds are those of its names
+pub held-reads : (ns : List Name) (k : Name) → (holds ns k ≡ true) ↔ List·Memᴰ k (map key ns)
+held-reads ns k = (
+  λ h. let (i, l, e) = held-at ns k h in Memᴰ·cast (sym e) (Memᴰ·map key (at-member ns i l)),
+  λ m. let (n, here, e) = Memᴰ·of-map key ns m in rw (sym e) (member-held ns n here),
+)
 
 pub number-decides : (ds : List Name) (j k : Name) → holds ds j ≡ true → holds ds k ≡ true → numberOf ds j ≡ numberOf ds k → j ≡ k
 number-decides ds j k hj hk e = sym (number-held ds j hj) ∙ ap (λ (i : ℕ). key (getD ds i [])) e ∙ number-held ds k hk

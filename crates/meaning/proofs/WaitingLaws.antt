@@ -7,14 +7,17 @@ use mathlib.Core.Logic.{_↔_, ⊎-elim}
 use Prim.Native.Nat.{ℕ, suc}
 use lib.Dec.{eqb}
 use lib.ListN.{length}
-use borrow.Author.Tests.{eqb-true, eqb-false, eq-eqb, ne-eqb}
+use borrow.Author.Tests.{eqb-true, eq-eqb, ne-eqb}
 use Rattle.meaning.specs.Waiting.{Entry, terminalsOf, Found, behind, seek, entryOf, put, without}
 use Rattle.meaning.specs.Waiting.Found.{nobody, at}
 use Rattle.meaning.specs.Line.{waits}
 
 -- no entry passes the test
 abbrev pub Fails : (Entry → Bool) → List Entry → Type 0
-Fails test es = (d : Entry) → List·Memᴰ d es → test d ≡ false
+Fails test es = (d : Entry) → List·Memᴰ d es → ¬ (test d ≡ true)
+
+pub not-true : {b : Bool} → b ≡ false → ¬ (b ≡ true)
+not-true e t = false≢true (sym e ∙ t)
 
 -- e is the first of es to pass the test, and stands at place p
 pub record First (test : Entry → Bool) (es : List Entry) (p : ℕ) (e : Entry) : Type 0 where
@@ -31,7 +34,7 @@ Finds test es nobody = Fails test es
 Finds test es (at p e) = First test es p e
 
 fails-first : (test : Entry → Bool) (d : Entry) (es : List Entry) → test d ≡ false → Fails test es → Fails test (d ∷ es)
-fails-first test d es e h c m = ⊎-elim (λ q. ap test q ∙ e) (h c) (List·Memᴰ·cases-cons m)
+fails-first test d es e h c m = ⊎-elim (λ q. not-true (ap test q ∙ e)) (h c) (List·Memᴰ·cases-cons m)
 
 finds-after : (test : Entry → Bool) (d : Entry) (es : List Entry) (b : Bool) → test d ≡ b → (f : Found) → Finds test es f
     → Finds test (d ∷ es) (cond b (at 0 d) (behind f))
@@ -65,7 +68,7 @@ terminal-between ahead after e q = Memᴰ·cast q (Memᴰ·map (λ (d : Entry). 
 found-waits : (t : ℕ) (es : List Entry) (f : Found) → Finds (λ e. eqb (e .terminal) t) es f → (waits f ≡ true) ↔ List·Memᴰ t (terminalsOf es)
 found-waits t es nobody h = (
   λ e. absurd (false≢true e),
-  λ m. let (d, k, q) = Memᴰ·of-map (λ (e : Entry). e .terminal) es m in absurd (eqb-false (d .terminal) t (h d k) q),
+  λ m. let (d, k, q) = Memᴰ·of-map (λ (e : Entry). e .terminal) es m in absurd (h d k (eq-eqb (d .terminal) t q)),
 )
 found-waits t es (at p e) h = (
   λ z. rw (h .listed) (terminal-between (h .ahead) (h .after) e (sym (eqb-true (e .terminal) t (h .passes)))),
@@ -115,8 +118,8 @@ module _ {es : List Entry} (ahead after : List Entry) (e : Entry) (listed : es �
   pub distinct-without : Distinct (terminalsOf es) → Distinct (terminalsOf (ahead ++ after))
   distinct-without d = rw map-append (distinct-around (terminalsOf ahead) (terminalsOf after) (e .terminal) (rw (listed, map-append) at d))
 
-pub fails-with : (test : Entry → Bool) (es : List Entry) (e : Entry) → Fails test es → test e ≡ false → Fails test (es ++ e ∷ [])
-fails-with test es e h q d m = ⊎-elim (h d) (λ k. ap test (List·Memᴰ·eq-of-singleton k) ∙ q) (List·Memᴰ·append-cases es m)
+pub fails-with : (test : Entry → Bool) (es : List Entry) (e : Entry) → Fails test es → ¬ (test e ≡ true) → Fails test (es ++ e ∷ [])
+fails-with test es e h q d m = ⊎-elim (h d) (λ k t. q (ap test (sym (List·Memᴰ·eq-of-singleton k)) ∙ t)) (List·Memᴰ·append-cases es m)
 
 pub put-last : (es : List Entry) (e : Entry) → put (length es) e es ≡ es ++ e ∷ []
 unfolding put

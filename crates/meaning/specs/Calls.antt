@@ -35,6 +35,12 @@ pub data Exchange : Type 0 where
   finished : ℕ → Reply FinishReply → Exchange
   withdrew : ℕ → Reply ℕ → Exchange
 
+-- the call that was made
+abbrev pub callIn : Exchange → Call
+callIn (asked t n r) = ask t n
+callIn (finished t r) = finish t
+callIn (withdrew t r) = withdraw t
+
 -- the number by which a call was refused, if it was
 abbrev pub refusalOf : {A : Type 0} → Reply A → Option ℕ
 refusalOf (done a) = none

@@ -10,5 +10,6 @@ pub mod Waiting
 pub mod Calls
 pub mod Line
 pub mod Heard
+pub mod Demand
 pub mod Promises
 pub mod LinePromises

@@ -9,6 +9,7 @@ use lib.Bits.{bitOr, bitAnd}
 use lib.ListN.{length, getD}
 use Rattle.meaning.specs.Names.{Name, key}
 use Rattle.meaning.specs.Words.{Expr, Word, Begins, names}
+use Rattle.meaning.specs.Words.Expr.{seq, choice}
 use Rattle.meaning.specs.Sets.{mem, In, unionOf}
 use Rattle.meaning.specs.Positions.{size, rows, permission, start}
 use Rattle.meaning.specs.Following.{Walk, setAfter, permits}
@@ -88,3 +89,22 @@ Rewriting-keeps-words = (x y : Expr) → Rewritten x y → (w : List Name) → W
 
 abbrev pub Rewriting-keeps-begins : Type 0
 Rewriting-keeps-begins = (x y : Expr) → Rewritten x y → (h : List Name) → Begins x h ↔ Begins y h
+
+-- document 001, section 5: "an example of two equivalent paths", for any parts
+--   a(p + q) + b(q + r) + c(p + r) + (a + b)r + (b + c)p + (a + c)q     and     (a + b + c)(p + q + r)
+abbrev pub longer : Expr → Expr → Expr → Expr → Expr → Expr → Expr
+longer a b c p q r =
+    choice (choice (choice (choice (choice
+    (seq a (choice p q))
+    (seq b (choice q r)))
+    (seq c (choice p r)))
+    (seq (choice a b) r))
+    (seq (choice b c) p))
+    (seq (choice a c) q)
+
+abbrev pub shorter : Expr → Expr → Expr → Expr → Expr → Expr → Expr
+shorter a b c p q r = seq (choice (choice a b) c) (choice (choice p q) r)
+
+-- "This scheme was used to reduce the longer path expression into the shorter one"
+abbrev pub Longer-rewritten : Type 0
+Longer-rewritten = (a b c p q r : Expr) → Rewritten (longer a b c p q r) (shorter a b c p q r)

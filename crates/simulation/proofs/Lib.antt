@@ -1,0 +1,11 @@
+-- Proofs of what specs/Promises.antt promises, lowest first.
+pub mod Histories
+pub mod OperationNames
+pub mod EntriesHeard
+pub mod Leaving
+pub mod Answering
+pub mod CallsAlike
+pub mod RunsAlike
+pub mod RunsMade
+pub mod TablesDemand
+pub mod TextsDemand

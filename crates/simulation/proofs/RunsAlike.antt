@@ -1,0 +1,149 @@
+-- Calls from an opening, by induction on the calls: lines that are alike answer the next call alike and are alike after it, and a call has
+-- one outcome, so that whatever a call left is that.
+use mathlib.Core.Path.{_≡_, refl, sym, ap, ap₂, subst, _∙_}
+use mathlib.Core.List.{List, [], _∷_, _++_, map, List·Memᴰ, List·Memᴰ·not-nil, List·Memᴰ·cases-cons}
+use mathlib.Core.Logic.{_↔_, ⊎-elim}
+use mathlib.Core.Option.{some}
+use Prim.Native.Nat.{ℕ, _≤_, _<_}
+use native.Mathlib.Omega.{arith}
+use lib.ListN.{length}
+use Rattle.meaning.specs.Calls.{Call, Exchange, refusalIn}
+use Rattle.meaning.specs.Following.{permits, setAfter}
+use Rattle.meaning.specs.Line.{Line, opening, refusal, step, talk, after}
+use Rattle.meaning.proofs.LineTalk.{step-tells}
+use Rattle.table.specs.Following.{tablePermits}
+use Rattle.table.specs.declared.cells.Table.{Table}
+use Rattle.standing.specs.declared.entries.Entry.{Entry}
+use Rattle.standing.specs.declared.records.Session.{Session}
+use Rattle.standing.specs.Lists.{blanked}
+use Rattle.standing.proofs.EntryLaws.{blanked-says}
+use Rattle.steps.specs.declared.replies.OpenReply.the-variants.{Opened}
+use Rattle.steps.specs.Calling.{Opens}
+use Rattle.steps.specs.Promises.{Untouched, BlankBehind}
+use Rattle.steps.specs.Refusals.OpenRow.{short-list}
+use Rattle.steps.specs.Steps.{Outcome, openStep}
+use Rattle.steps.specs.Steps as built
+use Rattle.steps.proofs.CallCases.{opened-served}
+use Rattle.steps.proofs.CallsKeep.{opened-sound}
+use Rattle.steps.proofs.CallsBlank.{opened-blank}
+use Rattle.steps.proofs.CallsLeave.{open-leaves-the-rest}
+use Rattle.simulation.specs.Runs.{Made, Leaves, Run, FromOpening}
+use Rattle.simulation.specs.Hearing.{callOf, heard}
+use Rattle.simulation.specs.Likeness.{knownIn, Alike}
+use Rattle.simulation.specs.Promises.{Run-goes-on, Simulated, Run-simulates}
+use Rattle.simulation.proofs.Leaving.{leaves-one, leaves-rest, leaves-blank}
+use Rattle.simulation.proofs.Answering.{refused-from-ten}
+use Rattle.simulation.proofs.CallsAlike.{call-alike}
+
+pub run-goes-on : Run-goes-on
+unfolding Run
+run-goes-on s s″ l l″ [] ns = (
+  λ run. (s, l, (refl, refl), run),
+  λ (s′, l′, (is, il), run). subst (λ (x : Session). Run x l ns s″ l″) is (subst (λ (x : List Entry). Run s′ x ns s″ l″) il run),
+)
+run-goes-on s s″ l l″ (m ∷ ms) ns = (
+  λ (s₁, l₁, by, run). let (s′, l′, first, rest) = run-goes-on s₁ s″ l₁ l″ ms ns .0 run in (s′, l′, (s₁, l₁, by, first), rest),
+  λ (s′, l′, (s₁, l₁, by, first), rest). (s₁, l₁, by, run-goes-on s₁ s″ l₁ l″ ms ns .1 (s′, l′, first, rest)),
+)
+
+-- it is not refused by 8 or 9
+abbrev FromTen : Exchange → Type 0
+FromTen x = (k : ℕ) → refusalIn x ≡ some k → 10 ≤ k
+
+module _ (t : Table) where
+  -- one call: the reply, and the lines after it
+  pub record OneAlike (s₁ : Session) (l₁ : List Entry) (i : Line) (m : Made) : Type 0 where
+    pub same-reply : heard t m ≡ step (tablePermits t) (knownIn t) i (callOf m) .0
+    pub from-ten : FromTen (heard t m)
+    pub still-alike : Alike t s₁ l₁ (step (tablePermits t) (knownIn t) i (callOf m) .1)
+
+  one-from-ten : (s : Session) (l : List Entry) (i : Line) → Alike t s l i → (c : Call) → FromTen (step (tablePermits t) (knownIn t) i c .0)
+  one-from-ten s l i a c k e =
+      let refused = rw step-tells at e in
+      subst (λ (x : Table). Alike x s l i → refusal (tablePermits x) (knownIn x) i c ≡ some k → 10 ≤ k) (a .its-table)
+      (λ b. refused-from-ten s l i b c k) a refused
+
+  one-alike : (s s₁ : Session) (l l₁ : List Entry) (i : Line) (m : Made) → Alike t s l i → Leaves s l m s₁ l₁ → OneAlike s₁ l₁ i m
+  one-alike s s₁ l l₁ i m a by =
+      let x = call-alike t s l i a (callOf m) in
+      let (same, records, lists) = leaves-one s l s₁ (x .session) l₁ (x .list) m (x .made) (sym (x .its-call)) by (x .leaves) in
+      let reply : heard t m ≡ step (tablePermits t) (knownIn t) i (callOf m) .0 = ap (heard t) same ∙ x .same-reply in
+      record {
+        same-reply = reply;
+        from-ten = rw reply (one-from-ten s l i a (callOf m));
+        still-alike = rw (records, lists) (x .still-alike);
+      }
+
+  -- any calls
+  pub record RunAlike (s′ : Session) (l l′ : List Entry) (i : Line) (ms : List Made) : Type 0 where
+    pub same-replies : map (heard t) ms ≡ talk (tablePermits t) (knownIn t) i (map callOf ms)
+    pub all-from-ten : (m : Made) → List·Memᴰ m ms → FromTen (heard t m)
+    pub still-alike : Alike t s′ l′ (after (tablePermits t) (knownIn t) i (map callOf ms))
+    pub still-blank : BlankBehind s′ l′
+    pub still-untouched : Untouched l l′
+
+  run-alike : (s s′ : Session) (l l′ : List Entry) (i : Line) (ms : List Made) → Alike t s l i → BlankBehind s l → Run s l ms s′ l′
+      → RunAlike s′ l l′ i ms
+  unfolding Run talk after
+  run-alike s s′ l l′ i [] a blank (is, il) =
+      rw (is, il)
+      (record {
+        same-replies = refl;
+        all-from-ten = λ m here. absurd (List·Memᴰ·not-nil here);
+        still-alike = a;
+        still-blank = blank;
+        still-untouched = (refl, λ j h. refl);
+      })
+  run-alike s s′ l l′ i (m ∷ ms) a blank (s₁, l₁, by, run) =
+      let one = one-alike s s₁ l l₁ i m a by in
+      let rest = run-alike s₁ s′ l₁ l′ _ ms (one .still-alike) (leaves-blank s s₁ l l₁ m by blank) run in
+      let touched = leaves-rest s s₁ l l₁ m by in
+      record {
+        same-replies = ap₂ (λ (x : Exchange) (xs : List Exchange). x ∷ xs) (one .same-reply) (rest .same-replies);
+        all-from-ten = λ d here. ⊎-elim (λ is. rw is (one .from-ten)) (rest .all-from-ten d) (List·Memᴰ·cases-cons here);
+        still-alike = rest .still-alike;
+        still-blank = rest .still-blank;
+        still-untouched = (rest .still-untouched .0 ∙ touched .0, λ j h. rest .still-untouched .1 j h ∙ touched .1 j h);
+      }
+
+  -- an opening that was not refused
+  module _ (s s₀ : Session) (l l₀ : List Entry) (opens : Opens s l t Opened s₀ l₀) where
+    pub opened-so : (s₀ ≡ built.opening t) × (l₀ ≡ blanked 64 l)
+    unfolding openStep
+    opened-so = opened-served (λ o. (o .session ≡ built.opening t) × (o .list ≡ blanked 64 l)) opens refl (λ none. (refl, refl))
+
+    pub long-enough : 64 ≤ length l
+    long-enough =
+        opened-served (λ o. 64 ≤ length l) opens refl
+        (λ none. let long : ¬ (length l < 64) = λ short. none 8 (short-list short) in omega arith)
+
+    pub opening-alike : Alike t s₀ l₀ opening
+    unfolding tablePermits permits setAfter
+    opening-alike =
+        let (is, il) = opened-so in
+        let sound = opened-sound s s₀ l l₀ t Opened opens refl in
+        record {
+          its-table = rw is;
+          is-sound = sound;
+          long-list = rw (il, blanked-says 64 l .same-length) long-enough;
+          grants-permitted = refl;
+          its-set = rw is;
+          same-runner = rw is;
+          same-entries = rw is;
+        }
+
+pub run-simulates : Run-simulates
+run-simulates t ms s l run =
+    let first = run .opened in
+    let blank = run .blank in
+    let alike = opening-alike t (run .lent) first (run .list) blank (run .opens) in
+    let behind = opened-blank (run .lent) first (run .list) blank t Opened (run .opens) refl in
+    let rest = open-leaves-the-rest (run .lent) first (run .list) blank t Opened (run .opens) in
+    let all = run-alike t first s blank l opening ms alike behind (run .runs) in
+    record {
+      same-replies = all .same-replies;
+      alike = all .still-alike;
+      blank-behind = all .still-blank;
+      rest-as-lent = (all .still-untouched .0 ∙ rest .0, λ j h. all .still-untouched .1 j h ∙ rest .1 j h);
+      not-by-8-or-9 = λ m k here. all .all-from-ten m here k;
+    }

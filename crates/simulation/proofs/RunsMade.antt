@@ -1,0 +1,99 @@
+-- Any calls can be made from an opening over a sound table, and have one outcome: each call of lines that are alike has an answer, and no
+-- call has two.
+use mathlib.Core.Path.{_≡_, refl, sym, ap₂, subst, _∙_}
+use mathlib.Core.List.{List, [], _∷_, map}
+use Prim.Native.Nat.{ℕ, _≤_}
+use native.Mathlib.Omega.{arith}
+use lib.ListN.{length}
+use Rattle.meaning.specs.Calls.{Call}
+use Rattle.meaning.specs.Line.{Line, opening}
+use Rattle.table.specs.Soundness.{Sound as TableSound}
+use Rattle.table.specs.declared.cells.Table.{Table}
+use Rattle.standing.specs.declared.entries.Entry.{Entry}
+use Rattle.standing.specs.declared.records.Session.{Session}
+use Rattle.standing.specs.Lists.{blanked}
+use Rattle.steps.specs.declared.replies.OpenReply.the-variants.{Opened}
+use Rattle.steps.specs.Calling.{Opens}
+use Rattle.steps.specs.Calling.Serves.{does}
+use Rattle.steps.specs.Refusals.{OpenRow, None}
+use Rattle.steps.specs.Refusals.OpenRow.{short-list, unsound-table}
+use Rattle.steps.specs.Steps.{openStep}
+use Rattle.steps.specs.Steps as built
+use Rattle.simulation.specs.Runs.{Made, Run, FromOpening}
+use Rattle.simulation.specs.Hearing.{callOf}
+use Rattle.simulation.specs.Likeness.{Alike}
+use Rattle.simulation.specs.Promises.{Calls-can-be-made, Runs-determined}
+use Rattle.simulation.proofs.Leaving.{leaves-one}
+use Rattle.simulation.proofs.CallsAlike.{call-alike}
+use Rattle.simulation.proofs.RunsAlike.{opened-so, opening-alike}
+
+-- some calls can be made of record s and list l
+record Makes (s : Session) (l : List Entry) (cs : List Call) : Type 0 where
+  made : List Made
+  session : Session
+  list : List Entry
+  run : Run s l made session list
+  those-calls : map callOf made ≡ cs
+
+makes-any : (t : Table) (s : Session) (l : List Entry) (i : Line) → Alike t s l i → (cs : List Call) → Makes s l cs
+unfolding Run
+makes-any t s l i a [] = record { made = []; session = s; list = l; run = (refl, refl); those-calls = refl }
+makes-any t s l i a (c ∷ cs) =
+    let one = call-alike t s l i a c in
+    let rest = makes-any t (one .session) (one .list) _ (one .still-alike) cs in
+    record {
+      made = one .made ∷ rest .made;
+      session = rest .session;
+      list = rest .list;
+      run = (one .session, one .list, one .leaves, rest .run);
+      those-calls = ap₂ (λ (d : Call) (ds : List Call). d ∷ ds) (one .its-call) (rest .those-calls);
+    }
+
+-- over a sound table, on a list that is long enough, no opening is refused
+none-refuses : (t : Table) (l : List Entry) → TableSound t → 64 ≤ length l → None (OpenRow t l)
+none-refuses t l sound long m (short-list short) = omega arith
+none-refuses t l sound long m (unsound-table unsound) = unsound sound
+
+opens-always : (t : Table) (s : Session) (l : List Entry) → TableSound t → 64 ≤ length l
+    → Opens s l t Opened (built.opening t) (blanked 64 l)
+unfolding openStep
+opens-always t s l sound long = does (none-refuses t l sound long) refl
+
+pub calls-can-be-made : Calls-can-be-made
+calls-can-be-made t sound s l long cs =
+    let opens = opens-always t s l sound long in
+    let first = built.opening t in
+    let all = makes-any t first (blanked 64 l) opening (opening-alike t s first l (blanked 64 l) opens) cs in
+    record {
+      made = all .made;
+      session = all .session;
+      list = all .list;
+      run = record { lent = s; list = l; opened = first; blank = blanked 64 l; opens = opens; runs = all .run };
+      on-that-record = refl;
+      on-that-list = refl;
+      those-calls = all .those-calls;
+    }
+
+-- equal calls of one record and list leave the same
+runs-one : (s s₁ s₂ : Session) (l l₁ l₂ : List Entry) (ms₁ ms₂ : List Made) → Run s l ms₁ s₁ l₁ → Run s l ms₂ s₂ l₂
+    → map callOf ms₁ ≡ map callOf ms₂ → (ms₁ ≡ ms₂) × (s₁ ≡ s₂) × (l₁ ≡ l₂)
+unfolding Run
+runs-one s s₁ s₂ l l₁ l₂ [] [] (is, il) (js, jl) e = (refl, is ∙ sym js, il ∙ sym jl)
+runs-one s s₁ s₂ l l₁ l₂ [] (m ∷ ms) run₁ run₂ e = let z : _≡_ {A = ℕ} 0 1 = cc in absurd (omega arith)
+runs-one s s₁ s₂ l l₁ l₂ (m ∷ ms) [] run₁ run₂ e = let z : _≡_ {A = ℕ} 0 1 = cc in absurd (omega arith)
+runs-one s s₁ s₂ l l₁ l₂ (m ∷ ms) (d ∷ ds) (s₃, l₃, by, run₁) (s₄, l₄, by′, run₂) e =
+    let first : callOf m ≡ callOf d = cc in
+    let others : map callOf ms ≡ map callOf ds = cc in
+    let (same, records, lists) = leaves-one s l s₃ s₄ l₃ l₄ m d first by by′ in
+    let (rest, ends, left) = runs-one s₄ s₁ s₂ l₄ l₁ l₂ ms ds (rw (records, lists) at run₁) run₂ others in
+    (ap₂ (λ (x : Made) (xs : List Made). x ∷ xs) same rest, ends, left)
+
+pub runs-determined : Runs-determined
+runs-determined t ms₁ ms₂ s₁ s₂ l₁ l₂ run₁ run₂ lists calls =
+    let (is, il) = opened-so t (run₁ .lent) (run₁ .opened) (run₁ .list) (run₁ .blank) (run₁ .opens) in
+    let (js, jl) = opened-so t (run₂ .lent) (run₂ .opened) (run₂ .list) (run₂ .blank) (run₂ .opens) in
+    let same-record : run₁ .opened ≡ run₂ .opened = is ∙ sym js in
+    let same-list : run₁ .blank ≡ run₂ .blank = il ∙ rw lists (sym jl) in
+    runs-one (run₂ .opened) s₁ s₂ (run₂ .blank) l₁ l₂ ms₁ ms₂
+    (subst (λ (x : Session). Run x (run₂ .blank) ms₁ s₁ l₁) same-record (subst (λ (x : List Entry). Run (run₁ .opened) x ms₁ s₁ l₁) same-list (run₁ .runs)))
+    (run₂ .runs) calls

@@ -1,0 +1,39 @@
+-- Calls of the built line one after the other, as the contracts of `open`, `ask`, `finish` and `withdraw` give them.
+use mathlib.Core.Path.{_≡_}
+use mathlib.Core.List.{List, [], _∷_}
+use Rattle.meaning.specs.Names.{Name}
+use Rattle.table.specs.declared.cells.Table.{Table}
+use Rattle.standing.specs.declared.numbers.Terminal.{Terminal}
+use Rattle.standing.specs.declared.entries.Entry.{Entry}
+use Rattle.standing.specs.declared.records.Session.{Session}
+use Rattle.steps.specs.declared.replies.OpenReply.the-variants.{Opened}
+use Rattle.steps.specs.declared.replies.AskReply.{AskReply}
+use Rattle.steps.specs.declared.replies.FinishReply.{FinishReply}
+use Rattle.steps.specs.declared.replies.WithdrawReply.{WithdrawReply}
+use Rattle.steps.specs.Calling.{Opens, Asks, Finishes, Withdraws}
+
+-- a call that was made, with the reply that its function returned
+pub data Made : Type 0 where
+  asks : Terminal → Name → AskReply → Made
+  finishes : Terminal → FinishReply → Made
+  withdraws : Terminal → WithdrawReply → Made
+
+-- its function's contract: the record and list before the call, and after it
+abbrev pub Leaves : Session → List Entry → Made → Session → List Entry → Type 0
+Leaves s l (asks t n r) s′ l′ = Asks s l t n r s′ l′
+Leaves s l (finishes t r) s′ l′ = Finishes s l t r s′ l′
+Leaves s l (withdraws t r) s′ l′ = Withdraws s l t r s′ l′
+
+-- "The session record is lent and updated by each call": each call is made on the record and list that the one before it left
+unfoldable pub Run : Session → List Entry → List Made → Session → List Entry → Type 0
+Run s l [] s′ l′ = (s′ ≡ s) × (l′ ≡ l)
+Run s l (m ∷ ms) s′ l′ = (s₁ : Session) × (l₁ : List Entry) × Leaves s l m s₁ l₁ × Run s₁ l₁ ms s′ l′
+
+-- from an opening over table t that was not refused, whatever record and list were lent
+pub record FromOpening (t : Table) (ms : List Made) (s′ : Session) (l′ : List Entry) : Type 0 where
+  pub lent : Session
+  pub list : List Entry
+  pub opened : Session
+  pub blank : List Entry
+  pub opens : Opens lent list t Opened opened blank
+  pub runs : Run opened blank ms s′ l′
