@@ -3,14 +3,13 @@
 -- first row that applies to the built one, and where the ideal line refuses nothing no row applies.
 use mathlib.Core.Path.{_≡_, refl, sym, subst, _∙_}
 use mathlib.Core.Bool.{Bool, true, false, cond, not, false≢true}
-use mathlib.Core.List.{List, map}
+use mathlib.Core.List.{List}
 use mathlib.Core.Logic.{_↔_}
 use mathlib.Core.Option.{Option, some, none}
 use Prim.Native.Nat.{ℕ, _<_, _≤_}
 use native.Mathlib.Omega.{arith}
 use borrow.Author.Tests.{ltb-true, ltb-false}
 use lib.Dec.{eqb, ltb}
-use lib.ListN.{length}
 use Rattle.meaning.specs.Names.{Name, key}
 use Rattle.meaning.specs.Waiting.{entryOf}
 use Rattle.meaning.specs.Calls.{Call}

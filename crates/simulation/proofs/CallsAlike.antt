@@ -1,17 +1,16 @@
 -- A call that is not refused, of lines that are alike: the tests of its step come out the same for both lines, and what the step leaves
 -- is alike. The name of an operation meets the set exactly if it is permitted after the grants.
 use mathlib.Core.Path.{_≡_, refl, sym, ap, ap₂, subst, _∙_}
-use mathlib.Core.Bool.{Bool, true, false, cond, _&&_, and-eq-true-iff, false≢true}
+use mathlib.Core.Bool.{Bool, true, false, _&&_, and-eq-true-iff, false≢true}
 use mathlib.Core.List.{List, [], _∷_, _++_, map}
 use mathlib.Core.Option.{Option, some, none}
 use Prim.Native.Nat.{ℕ, suc, _-_, _<_, _≤_}
 use native.Mathlib.Omega.{arith}
 use lib.Bits.{bitAnd}
 use lib.Dec.{eqb}
-use lib.ListN.{length, getD, set, take, length-map, length-take}
+use lib.ListN.{length, getD, set, take, length-map}
 use lib.Seq.{getD-take, length-take-le}
 use Rattle.meaning.specs.Names.{Name, key}
-use Rattle.meaning.specs.Operations.{numberOf}
 use Rattle.meaning.specs.Sets.{meeting, unionOf}
 use Rattle.meaning.specs.Waiting.{Entry as Named, put, without}
 use Rattle.meaning.specs.Calls.{Call}
@@ -21,7 +20,6 @@ use Rattle.meaning.proofs.NumberLaws.{number-held}
 use Rattle.table.specs.Cells.{namesOf}
 use Rattle.table.specs.Following.{permissionSet, foundIn, permissionOf, tablePermits}
 use Rattle.table.specs.declared.cells.Table.{Table}
-use Rattle.standing.specs.declared.numbers.Terminal.{Terminal}
 use Rattle.standing.specs.declared.entries.Entry.{Entry}
 use Rattle.standing.specs.declared.records.Session.{Session}
 use Rattle.standing.specs.declared.records.State.{State}
@@ -29,7 +27,7 @@ use Rattle.standing.specs.declared.records.State.the-variants.{Free, Running}
 use Rattle.standing.specs.declared.searches.Found.{Found}
 use Rattle.standing.specs.declared.searches.Found.the-variants.{Nobody, At}
 use Rattle.standing.specs.Lists.{blankEntry, inUse, takenOut}
-use Rattle.standing.specs.Soundness.{Sound, meetsSet}
+use Rattle.standing.specs.Soundness.{meetsSet}
 use Rattle.standing.proofs.Seeking.{Finds, seek-finds, found-in-use}
 use Rattle.steps.specs.declared.replies.AskReply.the-variants.{Granted, Delayed}
 use Rattle.steps.specs.declared.replies.Grant.{Grant}
@@ -42,13 +40,13 @@ use Rattle.steps.specs.Calling.Serves.{does}
 use Rattle.steps.specs.Refusals.{Row, None}
 use Rattle.simulation.specs.Runs.{Made, Leaves}
 use Rattle.simulation.specs.Runs.Made.{asks, finishes, withdraws}
-use Rattle.simulation.specs.Hearing.{nameIn, entryHeard}
+use Rattle.simulation.specs.Hearing.{entryHeard}
 use Rattle.simulation.specs.Likeness.{knownIn, runnerIn, setOf, SetAfter, Alike}
 use Rattle.simulation.proofs.Histories.{set-moves-on, permitted-next}
 use Rattle.simulation.proofs.OperationNames.{permission-named}
 use Rattle.simulation.proofs.EntriesHeard.{foundHeard, seek-heard, put-heard, taken-heard}
 use Rattle.simulation.proofs.Leaving.{leaves-sound, leaves-rest}
-use Rattle.simulation.proofs.Answering.{Answered, Passed, Verdict, entry-alike, tested-alike, refused-alike}
+use Rattle.simulation.proofs.Answering.{Answered, Verdict, entry-alike, tested-alike, refused-alike}
 
 module _ (s : Session) (l : List Entry) (i : Line) (a : Alike (s .table) s l i) where
   abbrev t : Table
@@ -67,9 +65,9 @@ module _ (s : Session) (l : List Entry) (i : Line) (a : Alike (s .table) s l i) 
       permitted-next t (i .history) k (a .grants-permitted) ∙ ap₂ meeting (sym after) same
 
   -- the set that is shared with a grant
-  shared-alike : (x : ℕ) → x ≡ setOf t (i .history) → (k : Name) (o : ℕ) → permissionOf t k ≡ permissionSet t o
-      → (g : List Name) × (j : Name) × (i .history ++ k ∷ [] ≡ g ++ j ∷ []) × (bitAnd x (permissionSet t o) ≡ bitAnd (setOf t g) (permissionOf t j))
-  shared-alike x after k o same = (i .history, k, refl, ap₂ bitAnd after (sym same))
+  shared-alike : (u x : ℕ) → x ≡ setOf t (i .history) → (k : Name) (o : ℕ) → permissionOf t k ≡ permissionSet t o
+      → SetAfter t (some u) (i .history ++ k ∷ []) (bitAnd x (permissionSet t o))
+  shared-alike u x after k o same = (i .history, k, refl, ap₂ bitAnd after (sym same))
 
   -- after a call that leaves these, record and list are sound and long enough; so the lines are alike if the rest is
   alike-after : (m : Made) (s′ : Session) (l′ : List Entry) (j : Line) → Leaves s l m s′ l′ → s′ .table ≡ t
@@ -134,7 +132,7 @@ module _ (s : Session) (l : List Entry) (i : Line) (a : Alike (s .table) s l i) 
           same-reply = rw (goes-on, ideal-test true test);
           still-alike = rw (goes-on, ideal-test true test)
               (alike-after made (granting s e (s .waiting)) l (grants i asked-for (i .waiting)) by refl permitted
-              (shared-alike (s .set) (free-set (i .running) is-free (a .its-set)) (key n) (e .operation .0) permission-same)
+              (shared-alike u (s .set) (free-set (i .running) is-free (a .its-set)) (key n) (e .operation .0) permission-same)
               refl (a .same-entries));
         }
 
@@ -232,7 +230,7 @@ module _ (s : Session) (l : List Entry) (i : Line) (a : Alike (s .table) s l i) 
           same-reply = rw (goes-on, picks-same, is);
           still-alike = rw (goes-on, picks-same, is)
               (alike-after made later left (grants i (entryHeard t e) (without (w .place) (i .waiting))) by refl
-              (meets-alike _ moved _ _ same ∙ finds .passes) (shared-alike _ moved _ _ same) refl entries);
+              (meets-alike _ moved _ _ same ∙ finds .passes) (shared-alike (e .terminal .0) _ moved _ _ same) refl entries);
         }
 
     pub finish-alike : Answered t s l i (finish u)

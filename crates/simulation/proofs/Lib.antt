@@ -9,3 +9,4 @@ pub mod RunsAlike
 pub mod RunsMade
 pub mod TablesDemand
 pub mod TextsDemand
+pub mod ReportPair

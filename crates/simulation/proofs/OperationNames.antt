@@ -1,12 +1,12 @@
 -- The operations of a sound table, by number and by name: names are distinct, so each operation's name has its own number, and the
 -- permission set of the name is that of the number.
 use mathlib.Core.Path.{_≡_, refl, sym, ap, _∙_}
-use mathlib.Core.Bool.{Bool, true, false, false≢true, cond}
+use mathlib.Core.Bool.{true, false, false≢true}
 use mathlib.Core.List.{List, []}
 use mathlib.Core.Logic.{⊎-elim}
 use Prim.Native.Nat.{ℕ, _-_, _<_}
 use native.Mathlib.Omega.{arith}
-use lib.ListN.{length, getD, take, List·getD-eq-default}
+use lib.ListN.{length, getD, List·getD-eq-default}
 use lib.Seq.{getD-take, length-take-le}
 use Rattle.meaning.specs.Names.{Name, key}
 use Rattle.meaning.specs.Operations.{holds, numberOf}
@@ -15,10 +15,9 @@ use Rattle.meaning.proofs.NumberLaws.{held-below, number-held}
 use Rattle.meaning.proofs.SetLaws.{below-or-not}
 use Rattle.text.specs.Tokens.{wellFormed, nextToken, tokenFrom, span}
 use Rattle.table.specs.Cells.{spellings, namesOf}
-use Rattle.table.specs.Following.{permissionSet, foundIn, permissionFound, permissionOf}
+use Rattle.table.specs.Following.{permissionSet, foundIn, permissionOf}
 use Rattle.table.specs.Soundness.{Sound, spelling}
 use Rattle.table.specs.declared.cells.Table.{Table}
-use Rattle.table.specs.declared.names.Found.the-variants.{At, Nowhere}
 use Rattle.simulation.specs.Hearing.{nameIn}
 
 -- no name is empty

@@ -1,8 +1,8 @@
 -- Calls from an opening, by induction on the calls: lines that are alike answer the next call alike and are alike after it, and a call has
 -- one outcome, so that whatever a call left is that.
 use mathlib.Core.Path.{_≡_, refl, sym, ap, ap₂, subst, _∙_}
-use mathlib.Core.List.{List, [], _∷_, _++_, map, List·Memᴰ, List·Memᴰ·not-nil, List·Memᴰ·cases-cons}
-use mathlib.Core.Logic.{_↔_, ⊎-elim}
+use mathlib.Core.List.{List, [], _∷_, map, List·Memᴰ, List·Memᴰ·not-nil, List·Memᴰ·cases-cons}
+use mathlib.Core.Logic.{⊎-elim}
 use mathlib.Core.Option.{some}
 use Prim.Native.Nat.{ℕ, _≤_, _<_}
 use native.Mathlib.Omega.{arith}
@@ -21,16 +21,16 @@ use Rattle.steps.specs.declared.replies.OpenReply.the-variants.{Opened}
 use Rattle.steps.specs.Calling.{Opens}
 use Rattle.steps.specs.Promises.{Untouched, BlankBehind}
 use Rattle.steps.specs.Refusals.OpenRow.{short-list}
-use Rattle.steps.specs.Steps.{Outcome, openStep}
+use Rattle.steps.specs.Steps.{openStep}
 use Rattle.steps.specs.Steps as built
 use Rattle.steps.proofs.CallCases.{opened-served}
 use Rattle.steps.proofs.CallsKeep.{opened-sound}
 use Rattle.steps.proofs.CallsBlank.{opened-blank}
 use Rattle.steps.proofs.CallsLeave.{open-leaves-the-rest}
-use Rattle.simulation.specs.Runs.{Made, Leaves, Run, FromOpening}
+use Rattle.simulation.specs.Runs.{Made, Leaves, Run}
 use Rattle.simulation.specs.Hearing.{callOf, heard}
 use Rattle.simulation.specs.Likeness.{knownIn, Alike}
-use Rattle.simulation.specs.Promises.{Run-goes-on, Simulated, Run-simulates}
+use Rattle.simulation.specs.Promises.{Run-goes-on, Run-simulates}
 use Rattle.simulation.proofs.Leaving.{leaves-one, leaves-rest, leaves-blank}
 use Rattle.simulation.proofs.Answering.{refused-from-ten}
 use Rattle.simulation.proofs.CallsAlike.{call-alike}
@@ -39,7 +39,7 @@ pub run-goes-on : Run-goes-on
 unfolding Run
 run-goes-on s s″ l l″ [] ns = (
   λ run. (s, l, (refl, refl), run),
-  λ (s′, l′, (is, il), run). subst (λ (x : Session). Run x l ns s″ l″) is (subst (λ (x : List Entry). Run s′ x ns s″ l″) il run),
+  λ (s′, l′, (is, il), run). rw (is, il) at run,
 )
 run-goes-on s s″ l l″ (m ∷ ms) ns = (
   λ (s₁, l₁, by, run). let (s′, l′, first, rest) = run-goes-on s₁ s″ l₁ l″ ms ns .0 run in (s′, l′, (s₁, l₁, by, first), rest),

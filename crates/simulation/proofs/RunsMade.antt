@@ -19,7 +19,7 @@ use Rattle.steps.specs.Refusals.{OpenRow, None}
 use Rattle.steps.specs.Refusals.OpenRow.{short-list, unsound-table}
 use Rattle.steps.specs.Steps.{openStep}
 use Rattle.steps.specs.Steps as built
-use Rattle.simulation.specs.Runs.{Made, Run, FromOpening}
+use Rattle.simulation.specs.Runs.{Made, Run}
 use Rattle.simulation.specs.Hearing.{callOf}
 use Rattle.simulation.specs.Likeness.{Alike}
 use Rattle.simulation.specs.Promises.{Calls-can-be-made, Runs-determined}
@@ -94,6 +94,4 @@ runs-determined t ms₁ ms₂ s₁ s₂ l₁ l₂ run₁ run₂ lists calls =
     let (js, jl) = opened-so t (run₂ .lent) (run₂ .opened) (run₂ .list) (run₂ .blank) (run₂ .opens) in
     let same-record : run₁ .opened ≡ run₂ .opened = is ∙ sym js in
     let same-list : run₁ .blank ≡ run₂ .blank = il ∙ rw lists (sym jl) in
-    runs-one (run₂ .opened) s₁ s₂ (run₂ .blank) l₁ l₂ ms₁ ms₂
-    (subst (λ (x : Session). Run x (run₂ .blank) ms₁ s₁ l₁) same-record (subst (λ (x : List Entry). Run (run₁ .opened) x ms₁ s₁ l₁) same-list (run₁ .runs)))
-    (run₂ .runs) calls
+    runs-one (run₂ .opened) s₁ s₂ (run₂ .blank) l₁ l₂ ms₁ ms₂ (rw (same-record, same-list) at (run₁ .runs)) (run₂ .runs) calls

@@ -1,11 +1,10 @@
 -- What can be seen of the built line is what can be seen of the ideal line: whatever calls were made, the simulation says what was seen,
 -- and any calls can be made. So the built line keeps demand 3, because the ideal line does.
-use mathlib.Core.Path.{_≡_, refl, sym, ap, _∙_}
-use mathlib.Core.List.{List, [], map}
+use mathlib.Core.Path.{refl, sym, _∙_}
+use mathlib.Core.List.{map}
 use mathlib.Core.Logic.{Iff·rfl, Iff·symm}
-use Prim.Native.Nat.{ℕ}
 use native.Mathlib.Omega.{arith}
-use lib.ListN.{length, replicate, length-replicate}
+use lib.ListN.{replicate, length-replicate}
 use Rattle.meaning.specs.Following.{permits}
 use Rattle.meaning.specs.LinePromises.{Seen as IdealSeen}
 use Rattle.meaning.proofs.LineKeeps.{line-keeps-its-promises}

@@ -75,10 +75,10 @@ module _ (text text′ : List ℕ) (x y : Expr) (a : Accepted text x) (b : Accep
       let lines : (cs : List Call) → _ = λ cs. same-begins-same-lines x y _ _ _ _ (reads text x a) (reads text′ y b) same opening cs in (
         λ seen.
             let (talks, afters) = lines (seen .calls) in
-            record { calls = seen .calls; replies = sym talks ∙ seen .replies; entries = ap (λ (l : Line). l .waiting) (sym afters) ∙ seen .entries },
+            record { calls = seen .calls; replies = rw (← talks) (seen .replies); entries = rw (← afters) (seen .entries) },
         λ seen.
             let (talks, afters) = lines (seen .calls) in
-            record { calls = seen .calls; replies = talks ∙ seen .replies; entries = ap (λ (l : Line). l .waiting) afters ∙ seen .entries },
+            record { calls = seen .calls; replies = rw talks (seen .replies); entries = rw afters (seen .entries) },
       )
 
   alike-seen : (xs : List Exchange) (es : List Named) → TextSeen text xs es ↔ TextSeen text′ xs es

@@ -48,8 +48,11 @@ Rewritten-told-alike =
     (text text′ : List ℕ) (x y : Expr) → Accepted text x → Accepted text′ y → Rewritten x y → Told-alike text text′
 
 -- document 001, section 5: "An example of two equivalent paths is"
+abbrev pub longer-path : List ℕ
+longer-path = bytes "path a(p + q) + b(q + r) + c(p + r) + (a + b)r + (b + c)p + (a + c)q end"
+
+abbrev pub shorter-path : List ℕ
+shorter-path = bytes "path (a + b + c)(p + q + r) end"
+
 abbrev pub Report-pair-told-alike : Type 0
-Report-pair-told-alike =
-    Told-alike
-    (bytes "path a(p + q) + b(q + r) + c(p + r) + (a + b)r + (b + c)p + (a + c)q end")
-    (bytes "path (a + b + c)(p + q + r) end")
+Report-pair-told-alike = Told-alike longer-path shorter-path
