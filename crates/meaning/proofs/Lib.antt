@@ -18,6 +18,9 @@ pub mod Reduction
 pub mod Samples
 pub mod DemandCarries
 pub mod WaitingLaws
+pub mod OneMoreCall
+pub mod DemandDetermined
+pub mod Granting
 pub mod HeardCounts
 pub mod LineRefusals
 pub mod LineAnswers

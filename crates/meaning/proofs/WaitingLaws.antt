@@ -61,8 +61,12 @@ pub member-around {ℓ} : {A : Type ℓ} {x : A} (xs ys : List A) (y : A) → Li
 member-around xs ys y m =
     ⊎-elim (λ k. Memᴰ·append-left (y ∷ ys) k) (λ k. Memᴰ·append-right xs (List·Memᴰ·tail k)) (List·Memᴰ·append-cases xs m)
 
+-- an entry stands in the list that it splits, and so does its terminal
+pub stands-between : {es : List Entry} (ahead after : List Entry) (e : Entry) → es ≡ ahead ++ e ∷ after → List·Memᴰ e es
+stands-between ahead after e l = rw l (Memᴰ·append-right ahead (List·Memᴰ·head refl))
+
 terminal-between : {t : ℕ} (ahead after : List Entry) (e : Entry) → t ≡ e .terminal → List·Memᴰ t (terminalsOf (ahead ++ e ∷ after))
-terminal-between ahead after e q = Memᴰ·cast q (Memᴰ·map (λ (d : Entry). d .terminal) (Memᴰ·append-right ahead (List·Memᴰ·head refl)))
+terminal-between ahead after e q = Memᴰ·cast q (Memᴰ·map (λ (d : Entry). d .terminal) (stands-between ahead after e refl))
 
 -- a terminal waits if its entry is found
 found-waits : (t : ℕ) (es : List Entry) (f : Found) → Finds (λ e. eqb (e .terminal) t) es f → (waits f ≡ true) ↔ List·Memᴰ t (terminalsOf es)

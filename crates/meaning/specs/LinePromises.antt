@@ -13,7 +13,7 @@ use Rattle.meaning.specs.Following.{permits}
 use Rattle.meaning.specs.Waiting.{Entry}
 use Rattle.meaning.specs.Calls.{Call, Exchange, refusalIn}
 use Rattle.meaning.specs.Line.{Line, opening, step, talk, after}
-use Rattle.meaning.specs.Heard.{Account, account, lineOf}
+use Rattle.meaning.specs.Heard.{Account, grantedNames, account, lineOf}
 use Rattle.meaning.specs.Demand.{Demand-3}
 
 -- what a test says
@@ -77,6 +77,19 @@ Demand-3-carries =
     (Seen Seen′ : List Exchange → List Entry → Type 0) (Permitted Permitted′ : List Name → Type 0) (Known Known′ : Name → Type 0)
     → ((xs : List Exchange) (es : List Entry) → Seen xs es ↔ Seen′ xs es) → ((h : List Name) → Permitted h ↔ Permitted′ h)
     → ((k : Name) → Known k ↔ Known′ k) → Demand-3 Seen Permitted Known → Demand-3 Seen′ Permitted′ Known′
+
+-- and it leaves one line: whatever keeps it, for the same permitted histories and operations, shows the same
+abbrev pub Demand-3-determined : Type 1
+Demand-3-determined =
+    (Seen Seen′ : List Exchange → List Entry → Type 0) (Permitted : List Name → Type 0) (Known : Name → Type 0)
+    → Demand-3 Seen Permitted Known → Demand-3 Seen′ Permitted Known → (xs : List Exchange) (es : List Entry) → Seen xs es ↔ Seen′ xs es
+
+-- every permitted history can be granted, where its beginnings are permitted and its names are keys of operations
+abbrev pub Permitted-can-be-granted : Type 1
+Permitted-can-be-granted =
+    (Seen : List Exchange → List Entry → Type 0) (Permitted : List Name → Type 0) (Known : Name → Type 0) → Demand-3 Seen Permitted Known
+    → ((h : List Name) (k : Name) → Permitted (h ++ k ∷ []) → Permitted h × Known k × ((n : Name) × (key n ≡ k)))
+    → (h : List Name) → Permitted h → (xs : List Exchange) × (es : List Entry) × Seen xs es × (grantedNames (account xs) ≡ h)
 
 -- every path has such a line: the one of the position rules' table
 abbrev pub Rules-read : Type 0

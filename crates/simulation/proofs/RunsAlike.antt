@@ -11,6 +11,7 @@ use Rattle.meaning.specs.Calls.{Call, Exchange, refusalIn}
 use Rattle.meaning.specs.Following.{permits, setAfter}
 use Rattle.meaning.specs.Line.{Line, opening, refusal, step, talk, after}
 use Rattle.meaning.proofs.LineTalk.{step-tells}
+use Rattle.meaning.proofs.LineKeeps.{line-keeps-its-promises}
 use Rattle.table.specs.Following.{tablePermits}
 use Rattle.table.specs.declared.cells.Table.{Table}
 use Rattle.standing.specs.declared.entries.Entry.{Entry}
@@ -140,9 +141,11 @@ run-simulates t ms s l run =
     let behind = opened-blank (run .lent) first (run .list) blank t Opened (run .opens) refl in
     let rest = open-leaves-the-rest (run .lent) first (run .list) blank t Opened (run .opens) in
     let all = run-alike t first s blank l opening ms alike behind (run .runs) in
+    let grants = ap (λ (j : Line). j .history) (line-keeps-its-promises (tablePermits t) (knownIn t) .line-is-heard (map callOf ms)) in
     record {
       same-replies = all .same-replies;
       alike = all .still-alike;
+      its-set = rw (all .same-replies, ← grants, all .still-alike .same-runner) (all .still-alike .its-set);
       blank-behind = all .still-blank;
       rest-as-lent = (all .still-untouched .0 ∙ rest .0, λ j h. all .still-untouched .1 j h ∙ rest .1 j h);
       not-by-8-or-9 = λ m k here. all .all-from-ten m here k;

@@ -1,6 +1,6 @@
 -- Any calls can be made from an opening over a sound table, and have one outcome: each call of lines that are alike has an answer, and no
 -- call has two.
-use mathlib.Core.Path.{_≡_, refl, sym, ap₂, subst, _∙_}
+use mathlib.Core.Path.{_≡_, refl, sym, ap₂, _∙_}
 use mathlib.Core.List.{List, [], _∷_, map}
 use Prim.Native.Nat.{ℕ, _≤_}
 use native.Mathlib.Omega.{arith}

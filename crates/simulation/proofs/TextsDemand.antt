@@ -1,21 +1,24 @@
 -- Lines over accepted texts: the table of a text permits what begins its expression and knows its names, so a line over it keeps demand 3
--- in these terms, and texts with the same histories have lines that cannot be told apart.
-use mathlib.Core.Path.{_≡_, sym, ap, subst, _∙_}
-use mathlib.Core.List.{List, map, List·Memᴰ}
-use mathlib.Core.Logic.{_↔_, Iff·trans, Iff·symm}
+-- in these terms. Demand 3 leaves one line, so lines over texts with the same histories cannot be told apart; and each permitted history can
+-- be granted, so lines that cannot be told apart have the same.
+use mathlib.Core.Path.{_≡_, refl, ap, subst, _∙_}
+use mathlib.Core.List.{List, [], _∷_, _++_, map, List·Memᴰ, List·Memᴰ·head, Memᴰ·append-right, Memᴰ·of-map}
+use mathlib.Core.Logic.{_↔_, Iff·rfl, Iff·symm}
 use Prim.Native.Nat.{ℕ}
 use Rattle.meaning.specs.Names.{Name, key}
 use Rattle.meaning.specs.Words.{Expr, Begins, names}
 use Rattle.meaning.specs.Operations.{distinct}
 use Rattle.meaning.specs.Waiting.{Entry as Named}
-use Rattle.meaning.specs.Calls.{Call, Exchange}
-use Rattle.meaning.specs.Line.{Line, opening}
-use Rattle.meaning.specs.LinePromises.{Reads, Seen as IdealSeen}
+use Rattle.meaning.specs.Calls.{Exchange}
+use Rattle.meaning.specs.LinePromises.{Reads}
 use Rattle.meaning.proofs.OperationLaws.{holds-distinct}
 use Rattle.meaning.proofs.NumberLaws.{held-reads}
-use Rattle.meaning.proofs.LineReads.{same-begins-same-lines}
-use Rattle.meaning.proofs.DemandCarries.{demand-3-carries}
+use Rattle.meaning.proofs.Beginnings.{beginning-begins}
+use Rattle.meaning.proofs.Occurring.{no-other-name-occurs, same-begins-same-names}
 use Rattle.meaning.proofs.Rewritings.{rewriting-keeps-begins}
+use Rattle.meaning.proofs.DemandCarries.{demand-3-carries}
+use Rattle.meaning.proofs.DemandDetermined.{demand-3-determined}
+use Rattle.meaning.proofs.Granting.{permitted-can-be-granted}
 use Rattle.grammar.specs.Refusals.{Accepted}
 use Rattle.table.specs.Cells.{namesOf}
 use Rattle.table.specs.Following.{tablePermits}
@@ -27,8 +30,9 @@ use Rattle.compiler.specs.Computed.{compiled}
 use Rattle.compiler.proofs.CompiledTexts.{text-limited, compiled-compiles, compiles-one}
 use Rattle.simulation.specs.Hearing.{Seen}
 use Rattle.simulation.specs.Likeness.{knownIn}
-use Rattle.simulation.specs.Texts.{TextSeen, Told-alike, Texts-keep-demand-3, Same-histories-told-alike, Rewritten-told-alike}
-use Rattle.simulation.proofs.TablesDemand.{built-as-ideal, tables-keep-demand-3}
+use Rattle.simulation.specs.Texts.{TextSeen, Texts-keep-demand-3, Texts-grant-what-begins, Same-histories-told-alike}
+use Rattle.simulation.specs.Texts.{Told-alike-same-histories, Rewritten-told-alike}
+use Rattle.simulation.proofs.TablesDemand.{tables-keep-demand-3}
 
 -- a line over an accepted text, by the table that the contract of `compile` gives
 module _ (text : List ℕ) (e : Expr) (is-accepted : Accepted text e) where
@@ -55,9 +59,6 @@ module _ (text : List ℕ) (e : Expr) (is-accepted : Accepted text e) where
     λ seen. subst (λ (r : Compiled). Seen (r .table) xs es) (compiles-one text (seen .compiled) (seen .compiles)) (seen .seen),
   )
 
-  seen-ideally : (xs : List Exchange) (es : List Named) → TextSeen text xs es ↔ IdealSeen (tablePermits t) (knownIn t) xs es
-  seen-ideally xs es = Iff·trans (Iff·symm (seen-of-table xs es)) (built-as-ideal t (of-text .is-sound) xs es)
-
 pub texts-keep-demand-3 : Texts-keep-demand-3
 texts-keep-demand-3 text e is-accepted =
     let r = reads text e is-accepted in
@@ -65,36 +66,42 @@ texts-keep-demand-3 text e is-accepted =
     (seen-of-table text e is-accepted) (r .permits-what-begins) (r .knows-its-names)
     (tables-keep-demand-3 (t text e is-accepted) (of-text text e is-accepted .is-sound))
 
-module _ (text text′ : List ℕ) (x y : Expr) (a : Accepted text x) (b : Accepted text′ y)
-    (same : (h : List Name) → Begins x h ↔ Begins y h) where
-  abbrev line-seen : (text : List ℕ) (e : Expr) → Accepted text e → List Exchange → List Named → Type 0
-  line-seen text e a = IdealSeen (tablePermits (t text e a)) (knownIn (t text e a))
-
-  same-ideally : (xs : List Exchange) (es : List Named) → line-seen text x a xs es ↔ line-seen text′ y b xs es
-  same-ideally xs es =
-      let lines : (cs : List Call) → _ = λ cs. same-begins-same-lines x y _ _ _ _ (reads text x a) (reads text′ y b) same opening cs in (
-        λ seen.
-            let (talks, afters) = lines (seen .calls) in
-            record { calls = seen .calls; replies = rw (← talks) (seen .replies); entries = rw (← afters) (seen .entries) },
-        λ seen.
-            let (talks, afters) = lines (seen .calls) in
-            record { calls = seen .calls; replies = rw talks (seen .replies); entries = rw afters (seen .entries) },
-      )
-
-  alike-seen : (xs : List Exchange) (es : List Named) → TextSeen text xs es ↔ TextSeen text′ xs es
-  alike-seen xs es =
-      Iff·trans (seen-ideally text x a xs es) (Iff·trans (same-ideally xs es) (Iff·symm (seen-ideally text′ y b xs es)))
-
-  told-alike : Told-alike text text′
-  told-alike =
-      record {
-        equal-replies = λ xs xs′ es es′ seen seen′ calls.
-            texts-keep-demand-3 text x a .answered-alike xs xs′ es es′ seen (alike-seen xs′ es′ .1 seen′) calls;
-        same-seen = alike-seen;
-      }
-
+-- lines over texts with the same histories keep the same demand, and that leaves one line
 pub same-histories-told-alike : Same-histories-told-alike
-same-histories-told-alike text text′ x y a b same = told-alike text text′ x y a b same
+same-histories-told-alike text text′ x y a b same =
+    let one = texts-keep-demand-3 text x a in
+    let other = demand-3-carries _ _ _ (Begins x) _ (λ (k : Name). List·Memᴰ k (map key (names x))) (λ xs es. Iff·rfl)
+    (λ h. Iff·symm (same h)) (λ k. Iff·symm (same-begins-same-names x y same k)) (texts-keep-demand-3 text′ y b) in
+    let alike = demand-3-determined (TextSeen text) (TextSeen text′) _ _ one other in
+    record {
+      equal-replies = λ xs xs′ es es′ seen seen′ calls. one .answered-alike xs xs′ es es′ seen (alike xs′ es′ .1 seen′) calls;
+      same-seen = alike;
+    }
 
 pub rewritten-told-alike : Rewritten-told-alike
-rewritten-told-alike text text′ x y a b r = told-alike text text′ x y a b (rewriting-keeps-begins x y r)
+rewritten-told-alike text text′ x y a b r = same-histories-told-alike text text′ x y a b (rewriting-keeps-begins x y r)
+
+-- the beginnings of what begins e begin it, and its names are e's
+begins-closed : (e : Expr) (h : List Name) (k : Name) → Begins e (h ++ k ∷ [])
+    → Begins e h × List·Memᴰ k (map key (names e)) × ((n : Name) × (key n ≡ k))
+begins-closed e h k b =
+    let known = no-other-name-occurs e (h ++ k ∷ []) k b (Memᴰ·append-right h (List·Memᴰ·head refl)) in
+    let (n, here, is) = Memᴰ·of-map key (names e) known in
+    (beginning-begins e h (k ∷ []) b, known, (n, is))
+
+pub texts-grant-what-begins : Texts-grant-what-begins
+texts-grant-what-begins text e a h b =
+    permitted-can-be-granted (TextSeen text) (Begins e) _ (texts-keep-demand-3 text e a) (begins-closed e) h b
+
+-- what the one line can grant, the other can: and so it is permitted there
+histories-within : (text text′ : List ℕ) (x y : Expr) → Accepted text x → Accepted text′ y
+    → ((xs : List Exchange) (es : List Named) → TextSeen text xs es → TextSeen text′ xs es) → (h : List Name) → Begins x h → Begins y h
+histories-within text text′ x y a b seen h begins =
+    let (xs, es, granted, is) = texts-grant-what-begins text x a h begins in
+    subst (Begins y) is (texts-keep-demand-3 text′ y b .orderly xs es (seen xs es granted) .grants-permitted)
+
+pub told-alike-same-histories : Told-alike-same-histories
+told-alike-same-histories text text′ x y a b alike h = (
+  histories-within text text′ x y a b (λ xs es. alike .same-seen xs es .0) h,
+  histories-within text′ text y x b a (λ xs es. alike .same-seen xs es .1) h,
+)

@@ -1,4 +1,4 @@
--- What is heard of the built line's calls and seen of its list: "operations read by name".
+-- What is heard of the built line's calls and seen of its list, operations read by name.
 use mathlib.Core.Path.{_≡_}
 use mathlib.Core.List.{List, [], map}
 use mathlib.Core.Option.{Option, some, none}

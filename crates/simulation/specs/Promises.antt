@@ -9,6 +9,7 @@ use lib.ListN.{length}
 use Rattle.meaning.specs.Waiting.{Entry as Named}
 use Rattle.meaning.specs.Calls.{Call, Exchange, refusalIn}
 use Rattle.meaning.specs.Line.{opening, talk, after}
+use Rattle.meaning.specs.Heard.{grantedNames, account}
 use Rattle.meaning.specs.Demand.{Demand-3}
 use Rattle.meaning.specs.LinePromises.{Says, Seen as IdealSeen}
 use Rattle.table.specs.Following.{tablePermits}
@@ -19,7 +20,7 @@ use Rattle.standing.specs.declared.records.Session.{Session}
 use Rattle.steps.specs.Promises.{Untouched, BlankBehind}
 use Rattle.simulation.specs.Runs.{Made, Run, FromOpening}
 use Rattle.simulation.specs.Hearing.{callOf, heard, Seen}
-use Rattle.simulation.specs.Likeness.{knownIn, Alike}
+use Rattle.simulation.specs.Likeness.{knownIn, runnerIn, SetAfter, Alike}
 
 -- a run of calls is a run of the first of them, and then of the others: so there are a record and a list after each
 abbrev pub Run-goes-on : Type 0
@@ -52,8 +53,10 @@ Runs-determined =
 pub record Simulated (t : Table) (ms : List Made) (s : Session) (l : List Entry) (run : FromOpening t ms s l) : Type 0 where
   -- the replies, operations read by name, are those of the ideal line to the same calls
   pub same-replies : map (heard t) ms ≡ talk (tablePermits t) (knownIn t) opening (map callOf ms)
-  -- record and list are sound, the set is the set after the grants, and the entries in use are those of the ideal line
+  -- record and list are sound, and the entries in use, operations read by name, are those of the ideal line
   pub alike : Alike t s l (after (tablePermits t) (knownIn t) opening (map callOf ms))
+  -- the set is the set after the history of grants, as calls and replies show it
+  pub its-set : SetAfter t (runnerIn (s .state)) (grantedNames (account (map (heard t) ms))) (s .set)
   -- the list behind the entries in use: blank up to 64, and then as it was lent
   pub blank-behind : BlankBehind s l
   pub rest-as-lent : Untouched (run .list) l

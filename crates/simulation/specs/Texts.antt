@@ -9,6 +9,7 @@ use Rattle.meaning.specs.Words.{Expr, Begins, names}
 use Rattle.meaning.specs.Rewriting.{Rewritten}
 use Rattle.meaning.specs.Waiting.{Entry as Named}
 use Rattle.meaning.specs.Calls.{Exchange, callIn}
+use Rattle.meaning.specs.Heard.{grantedNames, account}
 use Rattle.meaning.specs.Demand.{Demand-3}
 use Rattle.grammar.specs.Refusals.{Accepted}
 use Rattle.compiler.specs.declared.replies.Compiled.{Compiled}
@@ -27,6 +28,12 @@ abbrev pub Texts-keep-demand-3 : Type 0
 Texts-keep-demand-3 =
     (text : List ℕ) (e : Expr) → Accepted text e → Demand-3 (TextSeen text) (Begins e) (λ (k : Name). List·Memᴰ k (map key (names e)))
 
+-- and every history that begins some repetition of e can be granted
+abbrev pub Texts-grant-what-begins : Type 0
+Texts-grant-what-begins =
+    (text : List ℕ) (e : Expr) → Accepted text e → (h : List Name) → Begins e h
+    → (xs : List Exchange) × (es : List Named) × TextSeen text xs es × (grantedNames (account xs) ≡ h)
+
 -- no terminal can tell lines over the two texts apart, each from its own opening
 pub record Told-alike (text text′ : List ℕ) : Type 0 where
   -- equal calls get equal replies, and leave equal entries in use, operations read by name
@@ -40,6 +47,12 @@ abbrev pub Same-histories-told-alike : Type 0
 Same-histories-told-alike =
     (text text′ : List ℕ) (x y : Expr) → Accepted text x → Accepted text′ y → ((h : List Name) → Begins x h ↔ Begins y h)
     → Told-alike text text′
+
+-- and no others: texts that cannot be told apart permit the same histories
+abbrev pub Told-alike-same-histories : Type 0
+Told-alike-same-histories =
+    (text text′ : List ℕ) (x y : Expr) → Accepted text x → Accepted text′ y → Told-alike text text′
+    → (h : List Name) → Begins x h ↔ Begins y h
 
 -- "so neither can the report's four rewritings": any number of them, in either direction, for any parts and at any place inside a path,
 -- sequences and choices regrouped freely
