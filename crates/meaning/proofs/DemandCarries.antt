@@ -2,14 +2,16 @@
 -- holds of another that says the same, case by case.
 use mathlib.Core.List.{List}
 use mathlib.Core.Logic.{_↔_, Iff·trans, Iff·symm, Iff·not}
+use mathlib.Core.Option.{Option}
 use Prim.Native.Nat.{ℕ}
 use Rattle.meaning.specs.Names.{Name}
-use Rattle.meaning.specs.Calls.{Call, AskReply, FinishReply}
+use Rattle.meaning.specs.Calls.{Call, Grant, AskReply}
 use Rattle.meaning.specs.Heard.{Account}
-use Rattle.meaning.specs.Demand.{Due, Asked, Finished, Orderly}
-use Rattle.meaning.specs.Demand.Due.{above-63-asks, above-63-finishes, above-63-withdraws, no-such-operation, asks-while-running, asks-while-waiting, finishes-not-running, withdraws-not-waiting}
+use Rattle.meaning.specs.Demand.{Due, Asked, Handed, Orderly}
+use Rattle.meaning.specs.Demand.Due.{above-63-asks, above-63-finishes, above-63-withdraws, no-such-operation}
+use Rattle.meaning.specs.Demand.Due.{asks-while-running, asks-while-waiting, finishes-not-running, withdraws-not-waiting}
 use Rattle.meaning.specs.Demand.Asked.{is-granted, is-delayed}
-use Rattle.meaning.specs.Demand.Finished.{longest-goes, nobody-goes}
+use Rattle.meaning.specs.Demand.Handed.{longest-goes, nobody-goes}
 use Rattle.meaning.specs.LinePromises.{Demand-3-carries}
 
 due-carries : {Known Known′ : Name → Type 0} → ((k : Name) → Known k ↔ Known′ k) → {a : Account} {c : Call} {m : ℕ}
@@ -28,9 +30,9 @@ module _ {Permitted Permitted′ : List Name → Type 0} (p : (h : List Name) �
   asked-carries (is-granted f h) = is-granted f (p _ .0 h)
   asked-carries (is-delayed d) = is-delayed (λ f. Iff·not (p _) .0 (d f))
 
-  finished-carries : {r : FinishReply} → Finished Permitted a r → Finished Permitted′ a r
-  finished-carries (longest-goes ahead after e l o h g x) = longest-goes ahead after e l (λ d m. Iff·not (p _) .0 (o d m)) (p _ .0 h) g x
-  finished-carries (nobody-goes o g x) = nobody-goes (λ d m. Iff·not (p _) .0 (o d m)) g x
+  handed-carries : {g : Option Grant} → Handed Permitted a g → Handed Permitted′ a g
+  handed-carries (longest-goes ahead after e l o h q) = longest-goes ahead after e l (λ d m. Iff·not (p _) .0 (o d m)) (p _ .0 h) q
+  handed-carries (nobody-goes o q) = nobody-goes (λ d m. Iff·not (p _) .0 (o d m)) q
 
   orderly-carries : Orderly Permitted a → Orderly Permitted′ a
   orderly-carries o =
@@ -49,7 +51,8 @@ demand-3-carries Seen Seen′ Permitted Permitted′ Known Known′ s p k d =
       refused-exactly = λ xs x es m h. Iff·trans (d .refused-exactly xs x es m (s _ es .1 h)) (due-carries k, due-carries (λ n. Iff·symm (k n)));
       orderly = λ xs es h. orderly-carries p (d .orderly xs es (s xs es .1 h));
       ask-answered = λ xs es t n r h. asked-carries p (d .ask-answered xs es t n r (s _ es .1 h));
-      finish-answered = λ xs es t r h. finished-carries p (d .finish-answered xs es t r (s _ es .1 h));
+      finish-answered = λ xs es t r h. let f = d .finish-answered xs es t r (s _ es .1 h) in
+          record { hands = handed-carries p (f .hands); counts = f .counts };
       withdraw-answered = λ xs es t q h. d .withdraw-answered xs es t q (s _ es .1 h);
       entries-heard = λ xs es h. d .entries-heard xs es (s xs es .1 h);
       conserved = λ xs es n h. d .conserved xs es n (s xs es .1 h);

@@ -1,23 +1,24 @@
 -- Demand 3 leaves one line: whatever keeps it goes on, call by call, as another that keeps it was seen to. Both give the same reply to the same
--- call after the same exchanges: the same refusals are due, and else who goes is the first that is permitted, a place is that of the first of
--- its own, and a list is split at its first entry of a kind in one way.
+-- call after the same exchanges: the same refusals are due, and else who goes is the first that is permitted, a place or a count is that of
+-- the first of its own, and a list is split at its first entry of a kind in one way.
 use mathlib.Core.Path.{_≡_, refl, sym, ap, ap₂, subst, _∙_}
 use mathlib.Core.List.{List, [], _∷_, _++_, append-nil, List·Memᴰ, List·Memᴰ·head, List·Memᴰ·tail, Memᴰ·cast, Memᴰ·map}
 use mathlib.Core.Logic.{_↔_}
-use mathlib.Core.Option.{some}
+use mathlib.Core.Option.{Option, some}
 use Prim.Native.Nat.{ℕ}
 use native.Mathlib.Omega.{arith}
 use lib.ListN.{length}
 use lib.Seq.{append-snoc}
 use Rattle.meaning.specs.Names.{Name}
-use Rattle.meaning.specs.Waiting.{Entry}
-use Rattle.meaning.specs.Calls.{Reply, AskReply, FinishReply, Exchange, callIn, refusalOf}
+use Rattle.meaning.specs.Waiting.{Entry, terminalsOf}
+use Rattle.meaning.specs.Calls.{Grant, Reply, AskReply, FinishReply, Exchange, callIn, refusalOf}
 use Rattle.meaning.specs.Calls.Reply.{done, refused}
 use Rattle.meaning.specs.Calls.Exchange.{asked, finished, withdrew}
 use Rattle.meaning.specs.Heard.{Account, grantedNames}
-use Rattle.meaning.specs.Demand.{Asked, Finished, Withdrawn, Demand-3}
+use Rattle.meaning.specs.Demand.{Asked, Handed, Examined, Finished, Withdrawn, Demand-3}
 use Rattle.meaning.specs.Demand.Asked.{is-granted, is-delayed}
-use Rattle.meaning.specs.Demand.Finished.{longest-goes, nobody-goes}
+use Rattle.meaning.specs.Demand.Handed.{longest-goes, nobody-goes}
+use Rattle.meaning.specs.Demand.Examined.{up-to-the-granted, all-of-them}
 use Rattle.meaning.specs.LinePromises.{Demand-3-determined}
 use Rattle.meaning.proofs.WaitingLaws.{stands-between}
 use Rattle.meaning.proofs.OneMoreCall.{ReplyTo, told, no-calls, one-more-call}
@@ -33,9 +34,19 @@ module _ (P : Entry → Type 0) (after after′ : List Entry) {e e′ : Entry} (
       let (l, s) = split-alike ahead ahead′ (cc) (λ c m. o c (List·Memᴰ·tail m)) (λ c m. o′ c (List·Memᴰ·tail m)) in
       (omega arith, s)
 
--- a finish reply is its two parts
-same-parts : {r r′ : FinishReply} → r .examined ≡ r′ .examined → r .grants ≡ r′ .grants → r ≡ r′
-same-parts x g = ap₂ (λ n o. record { examined = n; grants = o }) x g
+-- where t is no entry's terminal, no entry is t's
+none-is-own : (t : ℕ) (es : List Entry) → ¬ List·Memᴰ t (terminalsOf es) → (d : Entry) → List·Memᴰ d es → ¬ (d .terminal ≡ t)
+none-is-own t es h d m q = h (Memᴰ·cast (sym q) (Memᴰ·map (λ e. e .terminal) m))
+
+examined-alike : {a : Account} {g g′ : Option Grant} {n n′ : ℕ} → g ≡ g′ → Examined a g n → Examined a g′ n′ → n ≡ n′
+examined-alike s (up-to-the-granted ahead after e l o q x) (up-to-the-granted ahead′ after′ e′ l′ o′ q′ x′) =
+    let same : _≡_ {A = Grant} (record { terminal = e′ .terminal; name = e′ .name }) (record { terminal = e .terminal; name = e .name }) = cc in
+    let t = ap (λ (h : Grant). h .terminal) same in
+    let own′ = none-is-own (e .terminal) ahead′ (rw t at o′) in
+    cc (split-alike (λ d. d .terminal ≡ e .terminal) after after′ refl t ahead ahead′ (sym l ∙ l′) (none-is-own (e .terminal) ahead o) own′ .0)
+examined-alike s (up-to-the-granted ahead after e l o q x) (all-of-them q′ x′) = cc
+examined-alike s (all-of-them q x) (up-to-the-granted ahead after e l o q′ x′) = cc
+examined-alike s (all-of-them q x) (all-of-them q′ x′) = cc
 
 module _ {Permitted : List Name → Type 0} {a : Account} where
   pub asked-alike : {n : Name} {r r′ : AskReply} → Asked Permitted a n r → Asked Permitted a n r′ → r ≡ r′
@@ -44,22 +55,25 @@ module _ {Permitted : List Name → Type 0} {a : Account} where
   asked-alike (is-delayed d) (is-granted f g) = absurd (d f g)
   asked-alike (is-delayed d) (is-delayed d′) = refl
 
-  pub finished-alike : {r r′ : FinishReply} → Finished Permitted a r → Finished Permitted a r′ → r ≡ r′
-  finished-alike (longest-goes ahead after e l o p g x) (longest-goes ahead′ after′ e′ l′ o′ p′ g′ x′) =
-      let (q, s) = split-alike (λ d. Permitted (grantedNames a ++ d .name ∷ [])) after after′ p p′ ahead ahead′ (sym l ∙ l′) o o′ in
-      same-parts (cc) (cc)
-  finished-alike (longest-goes ahead after e l o p g x) (nobody-goes o′ g′ x′) = absurd (o′ e (stands-between ahead after e l) p)
-  finished-alike (nobody-goes o g x) (longest-goes ahead after e l o′ p g′ x′) = absurd (o e (stands-between ahead after e l) p)
-  finished-alike (nobody-goes o g x) (nobody-goes o′ g′ x′) = same-parts (cc) (cc)
+  handed-alike : {g g′ : Option Grant} → Handed Permitted a g → Handed Permitted a g′ → g ≡ g′
+  handed-alike (longest-goes ahead after e l o p q) (longest-goes ahead′ after′ e′ l′ o′ p′ q′) =
+      let (n, s) = split-alike (λ d. Permitted (grantedNames a ++ d .name ∷ [])) after after′ p p′ ahead ahead′ (sym l ∙ l′) o o′ in
+      cc
+  handed-alike (longest-goes ahead after e l o p q) (nobody-goes o′ q′) = absurd (o′ e (stands-between ahead after e l) p)
+  handed-alike (nobody-goes o q) (longest-goes ahead after e l o′ p q′) = absurd (o e (stands-between ahead after e l) p)
+  handed-alike (nobody-goes o q) (nobody-goes o′ q′) = cc
 
-none-own-ahead : {a : Account} {t p : ℕ} (w : Withdrawn a t p) (d : Entry) → List·Memᴰ d (w .ahead) → ¬ (d .terminal ≡ t)
-none-own-ahead w d m q = w .none-ahead (Memᴰ·cast (sym q) (Memᴰ·map (λ e. e .terminal) m))
+  -- a finish reply is its two parts
+  pub finished-alike : {r r′ : FinishReply} → Finished Permitted a r → Finished Permitted a r′ → r ≡ r′
+  finished-alike f f′ =
+      let g = handed-alike (f .hands) (f′ .hands) in
+      ap₂ (λ n o. record { examined = n; grants = o }) (examined-alike g (f .counts) (f′ .counts)) g
 
 withdrawn-alike : {a : Account} {t p p′ : ℕ} → Withdrawn a t p → Withdrawn a t p′ → p ≡ p′
 withdrawn-alike {t} w w′ =
     let listed = sym (w .listed) ∙ w′ .listed in
     let alike = split-alike (λ e. e .terminal ≡ t) (w .after) (w′ .after) (w .own) (w′ .own) (w .ahead) (w′ .ahead) listed in
-    cc (alike (none-own-ahead w) (none-own-ahead w′) .0)
+    cc (alike (none-is-own t (w .ahead) (w .none-ahead)) (none-is-own t (w′ .ahead) (w′ .none-ahead)) .0)
 
 -- replies that are refused when the same is due, and are the same if both are done, are the same; S and S′ say which were seen
 replies-alike : {A : Type 0} {Due : ℕ → Type 0} (S S′ : Reply A → Type 0) → ((v v′ : A) → S (done v) → S′ (done v′) → v ≡ v′)

@@ -15,9 +15,11 @@ use Rattle.meaning.specs.Calls.AskReply.{granted}
 use Rattle.meaning.specs.Calls.Exchange.{asked, finished}
 use Rattle.meaning.specs.Heard.{Account, grantedNames, less, hearGranted, hearFinished, hear, hearAll, account}
 use Rattle.meaning.specs.Demand.{Runs, Waits, Due, Demand-3}
-use Rattle.meaning.specs.Demand.Due.{above-63-asks, above-63-finishes, no-such-operation, asks-while-running, asks-while-waiting, finishes-not-running}
+use Rattle.meaning.specs.Demand.Due.{above-63-asks, above-63-finishes, no-such-operation}
+use Rattle.meaning.specs.Demand.Due.{asks-while-running, asks-while-waiting, finishes-not-running}
 use Rattle.meaning.specs.Demand.Asked.{is-granted}
-use Rattle.meaning.specs.Demand.Finished.{nobody-goes}
+use Rattle.meaning.specs.Demand.Handed.{nobody-goes}
+use Rattle.meaning.specs.Demand.Examined.{all-of-them}
 use Rattle.meaning.specs.LinePromises.{Permitted-can-be-granted}
 use Rattle.meaning.proofs.OneMoreCall.{no-calls, one-more-call}
 use Rattle.meaning.proofs.DemandDetermined.{asked-alike, finished-alike}
@@ -72,7 +74,9 @@ module _ {Seen : List Exchange → List Entry → Type 0} {Permitted : List Name
   finish-grants-nobody : (h : List Name) (xs : List Exchange) (es : List Entry) → Granted h (0 ∷ []) (account xs) → (r : Reply FinishReply)
       → Seen (xs ++ finished 0 r ∷ []) es → r ≡ done (record { examined = length (account xs .waiters); grants = none })
   finish-grants-nobody h xs es g (done v) s =
-      ap done (finished-alike (keeps .finish-answered xs es 0 v s) (nobody-goes (λ d m. absurd (List·Memᴰ·not-nil (rw (g .nobody) at m))) refl refl))
+      ap done
+      (finished-alike (keeps .finish-answered xs es 0 v s)
+      (record { hands = nobody-goes (λ d m. absurd (List·Memᴰ·not-nil (rw (g .nobody) at m))) refl; counts = all-of-them refl refl }))
   finish-grants-nobody h xs es g (refused m) s =
       absurd (finish-not-due (omega arith) (rw (g .running) (List·Memᴰ·head refl)) (keeps .refused-exactly xs _ es m s .0 refl))
 

@@ -13,9 +13,9 @@ use Rattle.meaning.specs.Calls.Reply.{done}
 use Rattle.meaning.specs.Calls.Exchange.{asked, finished, withdrew}
 use Rattle.meaning.specs.Heard.{Account, grantedNames, hearGranted, hearDelayed, hearFinished, hearWithdrawn, hear, count}
 use Rattle.meaning.specs.LinePromises.{Says}
-use Rattle.meaning.specs.Demand.{Runs, Waits, Asked, Finished, Withdrawn}
+use Rattle.meaning.specs.Demand.{Runs, Waits, Asked, Handed, Withdrawn}
 use Rattle.meaning.specs.Demand.Asked.{is-granted, is-delayed}
-use Rattle.meaning.specs.Demand.Finished.{longest-goes, nobody-goes}
+use Rattle.meaning.specs.Demand.Handed.{longest-goes, nobody-goes}
 use Rattle.meaning.proofs.WaitingLaws.{Fails, member-around, Distinct, distinct-without, distinct-with, own-entry, without-own, fails-with}
 use Rattle.meaning.proofs.HeardCounts.{count-append, count-between}
 use Rattle.meaning.proofs.LineAnswers.{less-unfinished}
@@ -50,9 +50,9 @@ module _ (permitted : List Name → Bool) where
           conserved = λ k. simp (map-append, count-append) (omega (arith, s .conserved k));
         }
 
-    pub finished-sound : (t : ℕ) (r : FinishReply) → Runs a t → Finished (Says permitted) a r → Sound (hear a (finished t (done r)))
+    pub finished-sound : (t : ℕ) (r : FinishReply) → Runs a t → Handed (Says permitted) a (r .grants) → Sound (hear a (finished t (done r)))
     unfolding hear hearFinished
-    finished-sound t r m (longest-goes ahead after e l o p g x) =
+    finished-sound t r m (longest-goes ahead after e l o p g) =
         rw (g, less-unfinished t (a .unfinished) (s .one) m, own-entry ahead after e l (s .distinct), without-own ahead after e l)
         (record {
           one = omega arith;
@@ -61,7 +61,7 @@ module _ (permitted : List Name → Bool) where
           settled = λ z. absurd (cons≢nil z);
           conserved = λ k. simp (map-append, count-append) (omega (arith, s .conserved k, count-between k ahead after e l));
         })
-    finished-sound t r m (nobody-goes f g x) =
+    finished-sound t r m (nobody-goes f g) =
         rw (g, less-unfinished t (a .unfinished) (s .one) m)
         (record { one = omega arith; distinct = s .distinct; lawful = s .lawful; settled = λ z. f; conserved = s .conserved })
 

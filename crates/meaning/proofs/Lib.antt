@@ -10,6 +10,7 @@ pub mod Numbering
 pub mod Onward
 pub mod RowLaws
 pub mod Walks
+pub mod Histories
 pub mod Heart
 pub mod Fitting
 pub mod Occurring
@@ -22,10 +23,10 @@ pub mod OneMoreCall
 pub mod DemandDetermined
 pub mod Granting
 pub mod HeardCounts
+pub mod RefusalCases
 pub mod LineRefusals
 pub mod LineAnswers
 pub mod HeardSteps
 pub mod LineTalk
-pub mod LineReads
 pub mod LineHeard
 pub mod LineKeeps

@@ -16,12 +16,13 @@ use Rattle.meaning.specs.Calls.Reply.{done}
 use Rattle.meaning.specs.Calls.AskReply.{granted, delayed}
 use Rattle.meaning.specs.Calls.Exchange.{asked, finished, withdrew}
 use Rattle.meaning.specs.Line.{Line, free, waits, granting, askStep, finishStep, withdrawStep}
-use Rattle.meaning.specs.Heard.{Account, grantedNames, less, gone, unfinishedIn, hearGranted, hearDelayed, hearFinished, hearWithdrawn, hear, lineOf}
-use Rattle.meaning.specs.LinePromises.{Says}
-use Rattle.meaning.specs.Demand.{Runs, Waits, Asked, Finished, Withdrawn}
+use Rattle.meaning.specs.Heard.{Account, grantedNames, less, gone, hearGranted, hearDelayed, hearFinished, hearWithdrawn, hear}
+use Rattle.meaning.specs.LinePromises.{unfinishedIn, lineOf, Says}
+use Rattle.meaning.specs.Demand.{Runs, Waits, Asked, Handed, Examined, Withdrawn}
 use Rattle.meaning.specs.Demand.Asked.{is-granted, is-delayed}
-use Rattle.meaning.specs.Demand.Finished.{longest-goes, nobody-goes}
-use Rattle.meaning.proofs.WaitingLaws.{not-true, Finds, seek-finds, waits-reads, Distinct, own-entry, put-last}
+use Rattle.meaning.specs.Demand.Handed.{longest-goes, nobody-goes}
+use Rattle.meaning.specs.Demand.Examined.{up-to-the-granted, all-of-them}
+use Rattle.meaning.proofs.WaitingLaws.{not-true, Finds, seek-finds, waits-reads, Distinct, own-entry, none-own-ahead, put-last}
 
 -- the entry that an ask makes
 abbrev pub asking : ℕ → Name → Entry
@@ -54,10 +55,16 @@ module _ (permitted : List Name → Bool) (known : Name → Bool) (a : Account) 
   unfolding askStep
   ask-answers t n = ask-goes t n (a .unfinished) _ refl refl
 
-  pub finish-answers : (f : Found) → Finds (λ e. permitted (grantedNames a ++ e .name ∷ [])) (a .waiters) f
-      → Finished (Says permitted) a (finishStep permitted known (lineOf a) f .0)
-  finish-answers nobody h = nobody-goes h refl refl
-  finish-answers (at p e) h = longest-goes (h .ahead) (h .after) e (h .listed) (h .others) (h .passes) refl (omega (arith, h .place))
+  pub finish-hands : (f : Found) → Finds (λ e. permitted (grantedNames a ++ e .name ∷ [])) (a .waiters) f
+      → Handed (Says permitted) a (finishStep permitted known (lineOf a) f .0 .grants)
+  finish-hands nobody h = nobody-goes h refl
+  finish-hands (at p e) h = longest-goes (h .ahead) (h .after) e (h .listed) (h .others) (h .passes) refl
+
+  pub finish-counts : Distinct (terminalsOf (a .waiters)) → (f : Found) → Finds (λ e. permitted (grantedNames a ++ e .name ∷ [])) (a .waiters) f
+      → let r = finishStep permitted known (lineOf a) f .0 in Examined a (r .grants) (r .examined)
+  finish-counts d nobody h = all-of-them refl refl
+  finish-counts d (at p e) h =
+      up-to-the-granted (h .ahead) (h .after) e (h .listed) (none-own-ahead (h .ahead) (h .after) e (h .listed) d) refl (omega (arith, h .place))
 
   pub finish-leaves : (t : ℕ) → length (a .unfinished) ≤ 1 → Distinct (terminalsOf (a .waiters)) → Runs a t
       → (f : Found) → Finds (λ e. permitted (grantedNames a ++ e .name ∷ [])) (a .waiters) f

@@ -13,18 +13,18 @@ use Rattle.meaning.specs.Calls.Call.{ask, finish, withdraw}
 use Rattle.meaning.specs.Calls.Reply.{done}
 use Rattle.meaning.specs.Calls.Exchange.{asked, finished, withdrew}
 use Rattle.meaning.specs.Line.{Line, tested, askStep, finishStep, withdrawStep, picked, refusal, step, talk, after}
-use Rattle.meaning.specs.Heard.{Account, grantedNames, nothing, hear, hearAll, account, count, lineOf}
+use Rattle.meaning.specs.Heard.{Account, grantedNames, nothing, hear, hearAll, account, count}
 use Rattle.meaning.specs.Demand.{Asked, Finished, Withdrawn}
-use Rattle.meaning.specs.LinePromises.{Says, heardOf, lineAfter}
+use Rattle.meaning.specs.LinePromises.{lineOf, Says, heardOf, lineAfter}
 use Rattle.meaning.proofs.WaitingLaws.{Finds, seek-finds}
 use Rattle.meaning.proofs.LineRefusals.{Tested, call-tested}
-use Rattle.meaning.proofs.LineAnswers.{asking, ask-answers, finish-answers, finish-leaves, withdraw-answers, withdraw-leaves}
+use Rattle.meaning.proofs.LineAnswers.{asking, ask-answers, finish-hands, finish-counts, finish-leaves, withdraw-answers, withdraw-leaves}
 use Rattle.meaning.proofs.HeardSteps.{Sound, asked-sound, finished-sound, withdrawn-sound}
 use Rattle.meaning.proofs.LineTalk.{step-tells}
 
 module _ (permitted : List Name → Bool) (known : Name → Bool) where
   -- a is sound, and shows all of line l
-  abbrev pub Heard : Line → Account → Type 0
+  abbrev Heard : Line → Account → Type 0
   Heard l a = Sound permitted a × (l ≡ lineOf a)
 
   picked-finds : (a : Account) → Finds (λ e. permitted (grantedNames a ++ e .name ∷ [])) (a .waiters) (picked permitted known (lineOf a))
@@ -44,7 +44,7 @@ module _ (permitted : List Name → Bool) (known : Name → Bool) where
     unfolding hear
     finish-heard t none m =
         let f = picked permitted known (lineOf a) in (
-          finished-sound permitted a s t _ m (finish-answers permitted known a f (picked-finds a)),
+          finished-sound permitted a s t (finishStep permitted known (lineOf a) f .0) m (finish-hands permitted known a f (picked-finds a)),
           finish-leaves permitted known a t (s .one) (s .distinct) m f (picked-finds a),
         )
     finish-heard t (some k) d = (s, refl)
@@ -80,7 +80,11 @@ module _ (permitted : List Name → Bool) (known : Name → Bool) where
         let f = picked permitted known (lineOf a) in
         let p = not-refused (finish t) (ap refusalIn e) in
         let q : finishStep permitted known (lineOf a) f .0 ≡ r = cc in
-        rw (← q) (finish-answers permitted known a f (picked-finds a))
+        rw (← q)
+        (record {
+          hands = finish-hands permitted known a f (picked-finds a);
+          counts = finish-counts permitted known a (s .distinct) f (picked-finds a);
+        })
 
     pub withdraw-told : (t p : ℕ) → step permitted known (lineOf a) (withdraw t) .0 ≡ withdrew t (done p) → Withdrawn a t p
     unfolding step

@@ -7,9 +7,9 @@ use Rattle.meaning.specs.Names.{Name, key}
 use Rattle.meaning.specs.Waiting.{Entry}
 use Rattle.meaning.specs.Calls.{Exchange, callIn, refusalIn}
 use Rattle.meaning.specs.Line.{opening, step, talk}
-use Rattle.meaning.specs.Heard.{account, lineOf}
+use Rattle.meaning.specs.Heard.{account}
 use Rattle.meaning.specs.Demand.{Demand-3}
-use Rattle.meaning.specs.LinePromises.{Says, lineAfter, Seen, Line-keeps-its-promises}
+use Rattle.meaning.specs.LinePromises.{lineOf, Says, lineAfter, Seen, Line-keeps-its-promises}
 use Rattle.meaning.proofs.LineRefusals.{refused-if-due}
 use Rattle.meaning.proofs.HeardSteps.{Sound}
 use Rattle.meaning.proofs.LineTalk.{step-tells, refused-changes-nothing, talk-goes-on, talk-calls, talk-splits, first-told}

@@ -2,7 +2,8 @@
 -- on the expression; every other part of a word is filled with some word of it.
 use mathlib.Core.Path.{sym, ap}
 use mathlib.Core.Logic.{inl, inr, ⊎-elim}
-use mathlib.Core.List.{List, [], _∷_, _++_, map, map-append, append-assoc, List·Memᴰ, List·Memᴰ·head, List·Memᴰ·not-nil, List·Memᴰ·append-cases, List·Memᴰ·eq-of-singleton, Memᴰ·append-left, Memᴰ·append-right, Memᴰ·of-map}
+use mathlib.Core.List.{List, [], _∷_, _++_, map, map-append, append-assoc, List·Memᴰ, List·Memᴰ·head, List·Memᴰ·not-nil}
+use mathlib.Core.List.{List·Memᴰ·append-cases, List·Memᴰ·eq-of-singleton, Memᴰ·append-left, Memᴰ·append-right, Memᴰ·of-map}
 use Rattle.meaning.specs.Names.{Name, key}
 use Rattle.meaning.specs.Words.{Expr, Repeated, Word, Begins, names}
 use Rattle.meaning.specs.Words.Expr.{name, seq, choice, star}
@@ -11,7 +12,7 @@ use Rattle.meaning.specs.Promises.{Every-name-occurs, No-other-name-occu
 use Rattle.meaning.proofs.WordLaws.{repeated-once, some-word}
 
 -- each name stands in some word
-pub name-in-word : (e : Expr) (n : Name) → List·Memᴰ n (names e) → (u v : List Name) × Word e (u ++ key n ∷ v)
+name-in-word : (e : Expr) (n : Name) → List·Memᴰ n (names e) → (u v : List Name) × Word e (u ++ key n ∷ v)
 unfolding Word names
 name-in-word (name m) n i = ([], [], ap (λ (k : Name). key k ∷ []) (List·Memᴰ·eq-of-singleton i))
 name-in-word (seq a b) n i =
@@ -46,7 +47,7 @@ in-repeated W ks k f (more u v h t e) i =
     ⊎-elim (f u h) (in-repeated W ks k f t) (List·Memᴰ·append-cases u (rw e at i))
 
 -- a word has the keys of its expression's names only
-pub in-word : (e : Expr) (w : List Name) (k : Name) → Word e w → List·Memᴰ k w → List·Memᴰ k (map key (names e))
+in-word : (e : Expr) (w : List Name) (k : Name) → Word e w → List·Memᴰ k w → List·Memᴰ k (map key (names e))
 unfolding Word names
 in-word (name n) w k e i = rw e at i
 in-word (seq a b) w k (u, v, wa, wb, e) i =

@@ -16,20 +16,21 @@ use Rattle.meaning.specs.Positions.{size, canBeEmpty, first, last, follo
 use Rattle.meaning.proofs.NameLaws.{same-equal, same-self}
 use Rattle.meaning.proofs.SetLaws.{none-in, in-single, in-union, in-cond, either-true}
 use Rattle.meaning.proofs.WordLaws.{repeated-opens}
-use Rattle.meaning.proofs.Rests.{Rest, Inside, apart, in-first-seq, in-last-seq, in-follows-seq, in-follows-star, first-inside, follows-inside, positions-inside, rest-inside}
+use Rattle.meaning.proofs.Rests.{Rest, Inside, apart, in-first-seq, in-last-seq, in-follows-seq, in-follows-star}
+use Rattle.meaning.proofs.Rests.{first-inside, follows-inside, positions-inside, rest-inside}
 
 -- w goes on with a name at a bit of s, and a rest after it
 abbrev pub Goes : ℕ → (Name → ℕ) → (ℕ → List Name → Type 0) → List Name → Type 0
 Goes s pos R w = (k : Name) × (v : List Name) × (p : ℕ) × (w ≡ k ∷ v) × In p s × In p (pos k) × R p v
 
 -- w is empty, where t allows that, or goes on
-abbrev pub Onward : Bool → ℕ → (Name → ℕ) → (ℕ → List Name → Type 0) → List Name → Type 0
+abbrev Onward : Bool → ℕ → (Name → ℕ) → (ℕ → List Name → Type 0) → List Name → Type 0
 Onward t s pos R w = ((t ≡ true) × (w ≡ [])) ⊎ Goes s pos R w
 
-abbrev pub Starts : Expr → ℕ → List Name → Type 0
+abbrev Starts : Expr → ℕ → List Name → Type 0
 Starts e lo w = Onward (canBeEmpty e) (first e lo) (positionsOf e lo) (Rest e lo) w
 
-abbrev pub Continues : Expr → ℕ → ℕ → List Name → Type 0
+abbrev Continues : Expr → ℕ → ℕ → List Name → Type 0
 Continues e lo p w = Onward (mem p (last e lo)) (follows e lo p) (positionsOf e lo) (Rest e lo) w
 
 -- the front of w, and what comes after its first name, may be put in another way
@@ -50,10 +51,10 @@ right-only lo m n p i f (inr b) = b
 
 -- the positions of a name in a sequence or a choice
 module _ (a b : Expr) (lo p : ℕ) (k : Name) where
-  pub in-left : In p (positionsOf a lo k) → In p (bitOr (positionsOf a lo k) (positionsOf b (lo + size a) k))
+  in-left : In p (positionsOf a lo k) → In p (bitOr (positionsOf a lo k) (positionsOf b (lo + size a) k))
   in-left h = in-union p (positionsOf a lo k) (positionsOf b (lo + size a) k) .1 (inl h)
 
-  pub in-right : In p (positionsOf b (lo + size a) k) → In p (bitOr (positionsOf a lo k) (positionsOf b (lo + size a) k))
+  in-right : In p (positionsOf b (lo + size a) k) → In p (bitOr (positionsOf a lo k) (positionsOf b (lo + size a) k))
   in-right h = in-union p (positionsOf a lo k) (positionsOf b (lo + size a) k) .1 (inr h)
 
   out-left : Inside lo (size a) p → In p (bitOr (positionsOf a lo k) (positionsOf b (lo + size a) k)) → In p (positionsOf a lo k)

@@ -2,7 +2,8 @@
 -- those ahead and those after; all is by induction on the list, or on those ahead.
 use mathlib.Core.Path.{_≡_, refl, sym, ap, _∙_}
 use mathlib.Core.Bool.{Bool, true, false, cond, false≢true}
-use mathlib.Core.List.{List, [], _∷_, _++_, map-append, List·Memᴰ, List·Memᴰ·head, List·Memᴰ·tail, List·Memᴰ·not-nil, List·Memᴰ·cases-cons, List·Memᴰ·append-cases, List·Memᴰ·eq-of-singleton, Memᴰ·cast, Memᴰ·append-left, Memᴰ·append-right, Memᴰ·map, Memᴰ·of-map}
+use mathlib.Core.List.{List, [], _∷_, _++_, map-append, List·Memᴰ, List·Memᴰ·head, List·Memᴰ·tail, List·Memᴰ·not-nil, List·Memᴰ·cases-cons}
+use mathlib.Core.List.{List·Memᴰ·append-cases, List·Memᴰ·eq-of-singleton, Memᴰ·cast, Memᴰ·append-left, Memᴰ·append-right, Memᴰ·map, Memᴰ·of-map}
 use mathlib.Core.Logic.{_↔_, ⊎-elim}
 use Prim.Native.Nat.{ℕ, suc}
 use lib.Dec.{eqb}
@@ -98,6 +99,11 @@ distinct-with (u ∷ ts) t d h = (
   distinct-with ts t (d .1) (λ m. h (List·Memᴰ·tail m)),
 )
 
+distinct-ahead : (ts us : List ℕ) (u : ℕ) → Distinct (ts ++ u ∷ us) → ¬ List·Memᴰ u ts
+distinct-ahead [] us u d m = List·Memᴰ·not-nil m
+distinct-ahead (t ∷ ts) us u d m =
+    ⊎-elim (λ q. d .0 (Memᴰ·append-right ts (List·Memᴰ·head (sym q)))) (distinct-ahead ts us u (d .1)) (List·Memᴰ·cases-cons m)
+
 -- among distinct terminals an entry is the entry of its terminal
 own-found : (ahead after : List Entry) (e : Entry) → Distinct (terminalsOf (ahead ++ e ∷ after))
     → entryOf (e .terminal) (ahead ++ e ∷ after) ≡ at (length ahead) e
@@ -115,6 +121,9 @@ without-between (d ∷ ahead) after e = rw (without-between ahead after e)
 module _ {es : List Entry} (ahead after : List Entry) (e : Entry) (listed : es ≡ ahead ++ e ∷ after) where
   pub own-entry : Distinct (terminalsOf es) → entryOf (e .terminal) es ≡ at (length ahead) e
   own-entry d = rw listed (own-found ahead after e (rw listed at d))
+
+  pub none-own-ahead : Distinct (terminalsOf es) → ¬ List·Memᴰ (e .terminal) (terminalsOf ahead)
+  none-own-ahead d = distinct-ahead (terminalsOf ahead) (terminalsOf after) (e .terminal) (rw (listed, map-append) at d)
 
   pub without-own : without (length ahead) es ≡ ahead ++ after
   without-own = rw listed (without-between ahead after e)

@@ -11,7 +11,8 @@ use lib.ListN.{length, getD, List·getD-eq-default}
 use Rattle.meaning.specs.Names.{Name}
 use Rattle.meaning.specs.Sets.{In, unionOf}
 use Rattle.meaning.specs.Following.{Walk, setAfter, permits}
-use Rattle.meaning.proofs.SetLaws.{none-in, in-shared, member, member-not-none, not-empty-says, below-or-not, in-union-of, union-of-in, union-of-none}
+use Rattle.meaning.proofs.SetLaws.{none-in, in-shared, member, member-not-none, not-empty-says, below-or-not}
+use Rattle.meaning.proofs.SetLaws.{in-union-of, union-of-in, union-of-none}
 
 module _ (rows : List ℕ) (permission : Name → ℕ) where
   -- a row that has a member is one of the rows
@@ -23,13 +24,13 @@ module _ (rows : List ℕ) (permission : Name → ℕ) where
       go (inr l) = none-in q (rw (List·getD-eq-default rows 0 l) at h)
 
   -- a walk from the row of a member is one from the union of the rows
-  pub walk-into : (m p : ℕ) (h : List Name) → In p m → Walk rows permission (getD rows p 0) h → Walk rows permission (unionOf rows m) h
+  walk-into : (m p : ℕ) (h : List Name) → In p m → Walk rows permission (getD rows p 0) h → Walk rows permission (unionOf rows m) h
   unfolding Walk
   walk-into m p [] i t = tt
   walk-into m p (k ∷ h) i (q, j, n, t) = (q, union-of-in rows m q p (row-exists p q j) i j, n, t)
 
   -- and a walk from the union is one from the row of some member
-  pub walk-out-of : (m : ℕ) (h : List Name) → m ≢ 0 → Walk rows permission (unionOf rows m) h
+  walk-out-of : (m : ℕ) (h : List Name) → m ≢ 0 → Walk rows permission (unionOf rows m) h
       → (p : ℕ) × In p m × Walk rows permission (getD rows p 0) h
   unfolding Walk
   walk-out-of m [] n t = let i = member m n in (i .0, i .1, tt)

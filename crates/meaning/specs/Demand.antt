@@ -2,12 +2,12 @@
 use mathlib.Core.Path.{_≡_}
 use mathlib.Core.List.{List, [], _∷_, _++_, map, List·Memᴰ}
 use mathlib.Core.Logic.{_↔_}
-use mathlib.Core.Option.{some, none}
+use mathlib.Core.Option.{Option, some, none}
 use Prim.Native.Nat.{ℕ, _+_, _≤_, _<_}
 use lib.ListN.{length}
 use Rattle.meaning.specs.Names.{Name, key}
 use Rattle.meaning.specs.Waiting.{Entry, terminalsOf, namesOf}
-use Rattle.meaning.specs.Calls.{Call, AskReply, FinishReply, Exchange, callIn, refusalIn}
+use Rattle.meaning.specs.Calls.{Call, Grant, AskReply, FinishReply, Exchange, callIn, refusalIn}
 use Rattle.meaning.specs.Calls.Call.{ask, finish, withdraw}
 use Rattle.meaning.specs.Calls.Reply.{done}
 use Rattle.meaning.specs.Calls.AskReply.{granted, delayed}
@@ -38,16 +38,24 @@ pub data Asked (Permitted : List Name → Type 0) (a : Account) (n : Name) : Ask
   is-granted : a .unfinished ≡ [] → Permitted (grantedNames a ++ n ∷ []) → Asked Permitted a n granted
   is-delayed : (a .unfinished ≡ [] → ¬ Permitted (grantedNames a ++ n ∷ [])) → Asked Permitted a n (delayed (length (a .waiters)))
 
--- what a finish that is not refused is told: the longest waiting whose name is then permitted is granted, and the entries up
--- to it were examined; or nobody's is, and all were
-pub data Finished (Permitted : List Name → Type 0) (a : Account) (r : FinishReply) : Type 0 where
+-- who is handed the line by a finish that is not refused: the longest waiting whose name is then permitted; or nobody's is
+pub data Handed (Permitted : List Name → Type 0) (a : Account) (g : Option Grant) : Type 0 where
   longest-goes : (ahead after : List Entry) (e : Entry) → a .waiters ≡ ahead ++ e ∷ after
       → ((d : Entry) → List·Memᴰ d ahead → ¬ Permitted (grantedNames a ++ d .name ∷ []))
-      → Permitted (grantedNames a ++ e .name ∷ [])
-      → r .grants ≡ some (record { terminal = e .terminal; name = e .name }) → r .examined ≡ length ahead + 1
-      → Finished Permitted a r
-  nobody-goes : ((d : Entry) → List·Memᴰ d (a .waiters) → ¬ Permitted (grantedNames a ++ d .name ∷ []))
-      → r .grants ≡ none → r .examined ≡ length (a .waiters) → Finished Permitted a r
+      → Permitted (grantedNames a ++ e .name ∷ []) → g ≡ some (record { terminal = e .terminal; name = e .name }) → Handed Permitted a g
+  nobody-goes : ((d : Entry) → List·Memᴰ d (a .waiters) → ¬ Permitted (grantedNames a ++ d .name ∷ [])) → g ≡ none → Handed Permitted a g
+
+-- "the number of entries examined: the place of the granted entry plus 1, or the whole count"; the granted entry is its terminal's
+-- first
+pub data Examined (a : Account) (g : Option Grant) (n : ℕ) : Type 0 where
+  up-to-the-granted : (ahead after : List Entry) (e : Entry) → a .waiters ≡ ahead ++ e ∷ after → ¬ List·Memᴰ (e .terminal) (terminalsOf ahead)
+      → g ≡ some (record { terminal = e .terminal; name = e .name }) → n ≡ length ahead + 1 → Examined a g n
+  all-of-them : g ≡ none → n ≡ length (a .waiters) → Examined a g n
+
+-- what a finish that is not refused is told
+pub record Finished (Permitted : List Name → Type 0) (a : Account) (r : FinishReply) : Type 0 where
+  pub hands : Handed Permitted a (r .grants)
+  pub counts : Examined a (r .grants) (r .examined)
 
 -- what a withdrawal that is not refused is told: the place of the terminal's entry, with none of its own ahead
 pub record Withdrawn (a : Account) (t p : ℕ) : Type 0 where
@@ -79,9 +87,9 @@ pub record Demand-3 (Seen : List Exchange → List Entry → Type 0) (Permitted 
   -- refusals are given exactly when they are due
   pub refused-exactly : (xs : List Exchange) (x : Exchange) (es : List Entry) (m : ℕ) → Seen (xs ++ x ∷ []) es
       → (refusalIn x ≡ some m) ↔ Due Known (account xs) (callIn x) m
-  -- "the grants in order are a permitted history; at most one is unfinished; while none is, nobody waiting is permitted"
+  -- the grants in order are a permitted history; at most one is unfinished; while none is, nobody waiting is permitted
   pub orderly : (xs : List Exchange) (es : List Entry) → Seen xs es → Orderly Permitted (account xs)
-  -- an ask is granted or delayed, "a finish grants the longest waiting that is" permitted then, a withdrawal is told its place
+  -- an ask is granted or delayed, a finish grants the longest waiting that is permitted then, a withdrawal is told its place
   pub ask-answered : (xs : List Exchange) (es : List Entry) (t : ℕ) (n : Name) (r : AskReply) → Seen (xs ++ asked t n (done r) ∷ []) es
       → Asked Permitted (account xs) (key n) r
   pub finish-answered : (xs : List Exchange) (es : List Entry) (t : ℕ) (r : FinishReply) → Seen (xs ++ finished t (done r) ∷ []) es

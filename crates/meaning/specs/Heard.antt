@@ -11,7 +11,6 @@ use Rattle.meaning.specs.Calls.{Grant, Exchange}
 use Rattle.meaning.specs.Calls.Reply.{done, refused}
 use Rattle.meaning.specs.Calls.AskReply.{granted, delayed}
 use Rattle.meaning.specs.Calls.Exchange.{asked, finished, withdrew}
-use Rattle.meaning.specs.Line.{Line}
 
 -- the asks that were granted or delayed; the grants in order; what was withdrawn; the terminals that were granted and have
 -- not finished; and the asks that were delayed and since neither granted nor withdrawn, longest waiting first
@@ -111,14 +110,6 @@ hearAll a (x ∷ xs) = hearAll (hear a x) xs
 
 unfoldable pub account : List Exchange → Account
 account xs = hearAll nothing xs
-
--- the line that was heard: the names granted, the unfinished terminal, the waiters
-abbrev pub unfinishedIn : List ℕ → Option ℕ
-unfinishedIn [] = none
-unfinishedIn (t ∷ ts) = some t
-
-abbrev pub lineOf : Account → Line
-lineOf a = record { history = grantedNames a; running = unfinishedIn (a .unfinished); waiting = a .waiters }
 
 -- how often n is among ns
 unfoldable pub count : Name → List Name → ℕ

@@ -4,17 +4,23 @@ use mathlib.Core.Path.{_≡_}
 use mathlib.Core.Bool.{Bool, true}
 use mathlib.Core.List.{List, [], _∷_, _++_, map, List·Memᴰ}
 use mathlib.Core.Logic.{_↔_}
-use mathlib.Core.Option.{some}
+use mathlib.Core.Option.{Option, some, none}
 use Prim.Native.Nat.{ℕ}
 use Rattle.meaning.specs.Names.{Name, key}
 use Rattle.meaning.specs.Words.{Expr, Begins, names}
-use Rattle.meaning.specs.Positions.{rows, permission, start}
-use Rattle.meaning.specs.Following.{permits}
 use Rattle.meaning.specs.Waiting.{Entry}
 use Rattle.meaning.specs.Calls.{Call, Exchange, refusalIn}
 use Rattle.meaning.specs.Line.{Line, opening, step, talk, after}
-use Rattle.meaning.specs.Heard.{Account, grantedNames, account, lineOf}
+use Rattle.meaning.specs.Heard.{Account, grantedNames, account}
 use Rattle.meaning.specs.Demand.{Demand-3}
+
+-- the line that was heard: the names granted, the unfinished terminal, the waiters
+abbrev pub unfinishedIn : List ℕ → Option ℕ
+unfinishedIn [] = none
+unfinishedIn (t ∷ ts) = some t
+
+abbrev pub lineOf : Account → Line
+lineOf a = record { history = grantedNames a; running = unfinishedIn (a .unfinished); waiting = a .waiters }
 
 -- what a test says
 abbrev pub Says : {A : Type 0} → (A → Bool) → A → Type 0
@@ -63,14 +69,6 @@ pub record Reads (e : Expr) (permitted : List Name → Bool) (known : Name → B
   pub permits-what-begins : (h : List Name) → (permitted h ≡ true) ↔ Begins e h
   pub knows-its-names : (k : Name) → (known k ≡ true) ↔ List·Memᴰ k (map key (names e))
 
--- paths that permit the same histories cannot be told apart
-abbrev pub Same-begins-same-lines : Type 0
-Same-begins-same-lines =
-    (x y : Expr) (permitted permitted′ : List Name → Bool) (known known′ : Name → Bool)
-    → Reads x permitted known → Reads y permitted′ known′ → ((h : List Name) → Begins x h ↔ Begins y h)
-    → (l : Line) (cs : List Call)
-    → (talk permitted known l cs ≡ talk permitted′ known′ l cs) × (after permitted known l cs ≡ after permitted′ known′ l cs)
-
 -- what demand 3 says does not depend on how it is said what can be seen, what is permitted and what is known
 abbrev pub Demand-3-carries : Type 1
 Demand-3-carries =
@@ -90,7 +88,3 @@ Permitted-can-be-granted =
     (Seen : List Exchange → List Entry → Type 0) (Permitted : List Name → Type 0) (Known : Name → Type 0) → Demand-3 Seen Permitted Known
     → ((h : List Name) (k : Name) → Permitted (h ++ k ∷ []) → Permitted h × Known k × ((n : Name) × (key n ≡ k)))
     → (h : List Name) → Permitted h → (xs : List Exchange) × (es : List Entry) × Seen xs es × (grantedNames (account xs) ≡ h)
-
--- every path has such a line: the one of the position rules' table
-abbrev pub Rules-read : Type 0
-Rules-read = (e : Expr) → (known : Name → Bool) × Reads e (permits (rows e) (permission e) (start e)) known

@@ -12,21 +12,24 @@ use lib.ListN.{length, getD, set, take, length-map}
 use lib.Seq.{getD-take, length-take-le}
 use Rattle.meaning.specs.Names.{Name, key}
 use Rattle.meaning.specs.Sets.{meeting, unionOf}
-use Rattle.meaning.specs.Waiting.{Entry as Named, put, without}
+use Rattle.meaning.specs.Waiting.{Entry as Named, placeOf as placed, put, without}
 use Rattle.meaning.specs.Calls.{Call}
 use Rattle.meaning.specs.Calls.Call.{ask, finish, withdraw}
-use Rattle.meaning.specs.Line.{Line, free, runs, granting as grants, refusal, askStep, picked, step}
+use Rattle.meaning.specs.Calls.Reply.{done}
+use Rattle.meaning.specs.Calls.Exchange.{finished}
+use Rattle.meaning.specs.Line.{Line, free, runs, granting as grants, refusal, askStep, picked, examinedTo, step}
 use Rattle.meaning.proofs.NumberLaws.{number-held}
 use Rattle.table.specs.Cells.{namesOf}
 use Rattle.table.specs.Following.{permissionSet, foundIn, permissionOf, tablePermits}
 use Rattle.table.specs.declared.cells.Table.{Table}
+use Rattle.table.proofs.OperationNames.{permission-named}
 use Rattle.standing.specs.declared.entries.Entry.{Entry}
 use Rattle.standing.specs.declared.records.Session.{Session}
 use Rattle.standing.specs.declared.records.State.{State}
 use Rattle.standing.specs.declared.records.State.the-variants.{Free, Running}
 use Rattle.standing.specs.declared.searches.Found.{Found}
 use Rattle.standing.specs.declared.searches.Found.the-variants.{Nobody, At}
-use Rattle.standing.specs.Lists.{blankEntry, inUse, takenOut}
+use Rattle.standing.specs.Lists.{blankEntry, inUse, placeOf, putAt, takenOut}
 use Rattle.standing.specs.Soundness.{meetsSet}
 use Rattle.standing.proofs.Seeking.{Finds, seek-finds, found-in-use}
 use Rattle.steps.specs.declared.replies.AskReply.the-variants.{Granted, Delayed}
@@ -34,17 +37,16 @@ use Rattle.steps.specs.declared.replies.Grant.{Grant}
 use Rattle.steps.specs.declared.replies.Next.the-variants.{Granted as Grants, Nobody as NoNext}
 use Rattle.steps.specs.declared.replies.FinishReply.the-variants.{Finished}
 use Rattle.steps.specs.declared.replies.WithdrawReply.the-variants.{Withdrawn}
-use Rattle.steps.specs.Steps.{isFree, granting, counting, freed, askStep as builtAsk, picked as builtPick, finishStep, entryOf as builtEntry, withdrawStep}
+use Rattle.steps.specs.Steps.{isFree, granting, counting, freed, askStep as builtAsk, picked as builtPick}
+use Rattle.steps.specs.Steps.{examinedTo as builtExamined, finishStep, entryOf as builtEntry, withdrawStep}
 use Rattle.steps.specs.Calling.{entryFor}
 use Rattle.steps.specs.Calling.Serves.{does}
 use Rattle.steps.specs.Refusals.{Row, None}
-use Rattle.simulation.specs.Runs.{Made, Leaves}
-use Rattle.simulation.specs.Runs.Made.{asks, finishes, withdraws}
+use Rattle.simulation.specs.Runs.{ReplyTo, Leaves}
 use Rattle.simulation.specs.Hearing.{entryHeard}
-use Rattle.simulation.specs.Likeness.{knownIn, runnerIn, setOf, SetAfter, Alike}
+use Rattle.simulation.specs.Likeness.{knownIn, runnerIn, setOf, SetStands, Alike}
 use Rattle.simulation.proofs.Histories.{set-moves-on, permitted-next}
-use Rattle.simulation.proofs.OperationNames.{permission-named}
-use Rattle.simulation.proofs.EntriesHeard.{foundHeard, seek-heard, put-heard, taken-heard}
+use Rattle.simulation.proofs.EntriesHeard.{foundHeard, seek-heard, place-heard, put-heard, taken-heard}
 use Rattle.simulation.proofs.Leaving.{leaves-sound, leaves-rest}
 use Rattle.simulation.proofs.Answering.{Answered, Verdict, entry-alike, tested-alike, refused-alike}
 
@@ -66,18 +68,18 @@ module _ (s : Session) (l : List Entry) (i : Line) (a : Alike (s .table) s l i) 
 
   -- the set that is shared with a grant
   shared-alike : (u x : ℕ) → x ≡ setOf t (i .history) → (k : Name) (o : ℕ) → permissionOf t k ≡ permissionSet t o
-      → SetAfter t (some u) (i .history ++ k ∷ []) (bitAnd x (permissionSet t o))
+      → SetStands t (some u) (i .history ++ k ∷ []) (bitAnd x (permissionSet t o))
   shared-alike u x after k o same = (i .history, k, refl, ap₂ bitAnd after (sym same))
 
   -- after a call that leaves these, record and list are sound and long enough; so the lines are alike if the rest is
-  alike-after : (m : Made) (s′ : Session) (l′ : List Entry) (j : Line) → Leaves s l m s′ l′ → s′ .table ≡ t
-      → tablePermits t (j .history) ≡ true → SetAfter t (j .running) (j .history) (s′ .set) → runnerIn (s′ .state) ≡ j .running
+  alike-after : (c : Call) (r : ReplyTo c) (s′ : Session) (l′ : List Entry) (j : Line) → Leaves s l c r s′ l′ → s′ .table ≡ t
+      → tablePermits t (j .history) ≡ true → SetStands t (j .running) (j .history) (s′ .set) → runnerIn (s′ .state) ≡ j .running
       → map (entryHeard t) (inUse s′ l′) ≡ j .waiting → Alike t s′ l′ j
-  alike-after m s′ l′ j by table permitted its runner entries =
+  alike-after c r s′ l′ j by table permitted its runner entries =
       record {
         its-table = table;
-        is-sound = leaves-sound s s′ l l′ m by (a .is-sound);
-        long-list = omega (arith, leaves-rest s s′ l l′ m by .0, a .long-list);
+        is-sound = leaves-sound s s′ l l′ c r by (a .is-sound);
+        long-list = omega (arith, leaves-rest s s′ l l′ c r by .0, a .long-list);
         grants-permitted = permitted;
         its-set = its;
         same-runner = runner;
@@ -98,7 +100,7 @@ module _ (s : Session) (l : List Entry) (i : Line) (a : Alike (s .table) s l i) 
     entry-same = ap (λ (k : Name). record { terminal = u; name = k }) (number-held (namesOf t) (key n) known)
 
     -- both lines ask the same: whether the line is free, and the name permitted
-    test-same : (st : State) (r : Option ℕ) → runnerIn st ≡ r → SetAfter t r (i .history) (s .set)
+    test-same : (st : State) (r : Option ℕ) → runnerIn st ≡ r → SetStands t r (i .history) (s .set)
         → (free r && tablePermits t (i .history ++ key n ∷ [])) ≡ (isFree st && meetsSet s (e .operation .0))
     test-same Free none q its = meets-alike (s .set) its (key n) (e .operation .0) permission-same
     test-same Free (some v) q its = cc
@@ -113,25 +115,23 @@ module _ (s : Session) (l : List Entry) (i : Line) (a : Alike (s .table) s l i) 
     ideal-test b test = test-same (s .state) (i .running) (a .same-runner) (a .its-set) ∙ test
 
     -- of a free line the set is the set after all grants
-    free-set : (r : Option ℕ) → free r ≡ true → SetAfter t r (i .history) (s .set) → s .set ≡ setOf t (i .history)
+    free-set : (r : Option ℕ) → free r ≡ true → SetStands t r (i .history) (s .set) → s .set ≡ setOf t (i .history)
     free-set none is its = its
     free-set (some v) is its = absurd (false≢true is)
 
     ask-granted : (isFree (s .state) && meetsSet s (e .operation .0)) ≡ true → Answered t s l i (ask u n)
     unfolding step askStep builtAsk
     ask-granted test =
-        let made = asks (record { 0 = u }) n Granted in
         let (is-free, permitted) = and-eq-true-iff (free (i .running)) _ .0 (ideal-test true test) in
-        let by : Leaves s l made (granting s e (s .waiting)) l = does none-applies (rw test) in
+        let by : Leaves s l (ask u n) Granted (granting s e (s .waiting)) l = does none-applies (rw test) in
         record {
-          made = made;
+          reply = Granted;
           session = granting s e (s .waiting);
           list = l;
-          its-call = refl;
           leaves = by;
           same-reply = rw (goes-on, ideal-test true test);
           still-alike = rw (goes-on, ideal-test true test)
-              (alike-after made (granting s e (s .waiting)) l (grants i asked-for (i .waiting)) by refl permitted
+              (alike-after (ask u n) Granted (granting s e (s .waiting)) l (grants i asked-for (i .waiting)) by refl permitted
               (shared-alike u (s .set) (free-set (i .running) is-free (a .its-set)) (key n) (e .operation .0) permission-same)
               refl (a .same-entries));
         }
@@ -139,25 +139,27 @@ module _ (s : Session) (l : List Entry) (i : Line) (a : Alike (s .table) s l i) 
     ask-delayed : (isFree (s .state) && meetsSet s (e .operation .0)) ≡ false → Answered t s l i (ask u n)
     unfolding step askStep builtAsk
     ask-delayed test =
-        let made = asks (record { 0 = u }) n (Delayed (length (inUse s l))) in
+        let place = placeOf (inUse s l) e in
         let later = counting s (suc (s .waiting)) in
-        let by : Leaves s l made later (set l (length (inUse s l)) e) = does none-applies (rw test) in
-        let room = leaves-sound s later l _ made by (a .is-sound) .record-sound .count-most in
-        let waits : Line = record { history = i .history; running = i .running; waiting = put (length (i .waiting)) asked-for (i .waiting) } in
-        let entries : map (entryHeard t) (take (suc (s .waiting)) (set l (length (inUse s l)) e)) ≡ waits .waiting =
-        rw (as-many, put-heard (entryHeard t) (s .waiting) l e (omega (arith, room, a .long-list)), entry-same, a .same-entries) in
+        let by : Leaves s l (ask u n) (Delayed place) later (putAt place e l) = does none-applies (rw test) in
+        let room = leaves-sound s later l _ (ask u n) (Delayed place) by (a .is-sound) .record-sound .count-most in
+        let es = i .waiting in
+        let waits : Line = record { history = i .history; running = i .running; waiting = put (placed es asked-for) asked-for es } in
+        let same-place : placed es asked-for ≡ place = rw (← (a .same-entries)) (place-heard (entryHeard t) (inUse s l) e) in
+        let entries : map (entryHeard t) (take (suc (s .waiting)) (putAt place e l)) ≡ waits .waiting =
+        rw (← (a .same-entries), ← entry-same) (put-heard (entryHeard t) (s .waiting) l e (omega (arith, room, a .long-list))) in
         record {
-          made = made;
+          reply = Delayed place;
           session = later;
-          list = set l (length (inUse s l)) e;
-          its-call = refl;
+          list = putAt place e l;
           leaves = by;
-          same-reply = rw (goes-on, ideal-test false test, as-many, as-many-heard);
+          same-reply = rw (goes-on, ideal-test false test, same-place);
           still-alike = rw (goes-on, ideal-test false test)
-              (alike-after made later (set l (length (inUse s l)) e) waits by refl (a .grants-permitted) (a .its-set) (a .same-runner) entries);
+              (alike-after (ask u n) (Delayed place) later (putAt place e l) waits by refl (a .grants-permitted) (a .its-set)
+              (a .same-runner) entries);
         }
 
-    pub ask-alike : Answered t s l i (ask u n)
+    ask-alike : Answered t s l i (ask u n)
     ask-alike = go (isFree (s .state) && meetsSet s (e .operation .0)) refl
       where
         go : (b : Bool) → (isFree (s .state) && meetsSet s (e .operation .0)) ≡ b → Answered t s l i (ask u n)
@@ -177,7 +179,7 @@ module _ (s : Session) (l : List Entry) (i : Line) (a : Alike (s .table) s l i) 
     -- the set moves along the rows: it is then the set after all grants
     moved : unionOf (t .rows) (s .set) ≡ setOf t (i .history)
     moved =
-        let (g, k, is, shared) = subst (λ (r : Option ℕ). SetAfter t r (i .history) (s .set)) runs-now (a .its-set) in
+        let (g, k, is, shared) = subst (λ (r : Option ℕ). SetStands t r (i .history) (s .set)) runs-now (a .its-set) in
         ap (unionOf (t .rows)) shared ∙ sym (set-moves-on t g k) ∙ ap (setOf t) (sym is)
 
     -- both lines pick the same entry
@@ -191,28 +193,33 @@ module _ (s : Session) (l : List Entry) (i : Line) (a : Alike (s .table) s l i) 
     abbrev Picks : Found → Type 0
     Picks = Finds (λ e. meetsSet (freed s) (e .operation .0)) (inUse s l)
 
+    examined-same : (f : Found) → examinedTo (tablePermits t) (knownIn t) i (foundHeard (entryHeard t) f) ≡ builtExamined (freed s) l f
+    examined-same Nobody = as-many-heard
+    examined-same (At w) = refl
+
     handed-alike : (f : Found) → builtPick (freed s) l ≡ f → Picks f → Answered t s l i (finish u)
     unfolding step finishStep
     handed-alike Nobody is finds =
-        let made = finishes (record { 0 = u }) (Finished (record { examined = s .waiting; next = NoNext })) in
-        let by : Leaves s l made (freed s) l = does none-applies (rw is) in
+        let reply = Finished (record { examined = builtExamined (freed s) l Nobody; next = NoNext }) in
+        let by : Leaves s l (finish u) reply (freed s) l = does none-applies (rw is) in
         let after : Line = record { history = i .history; running = none; waiting = i .waiting } in
         record {
-          made = made;
+          reply = reply;
           session = freed s;
           list = l;
-          its-call = refl;
           leaves = by;
-          same-reply = rw (goes-on, picks-same, is, as-many-heard);
-          still-alike = rw (goes-on, picks-same, is) (alike-after made (freed s) l after by refl (a .grants-permitted) moved refl (a .same-entries));
+          same-reply = rw (goes-on, picks-same, is)
+              (ap (λ (n : ℕ). finished u (done (record { examined = n; grants = none }))) (sym (examined-same Nobody)));
+          still-alike = rw (goes-on, picks-same, is)
+              (alike-after (finish u) reply (freed s) l after by refl (a .grants-permitted) moved refl (a .same-entries));
         }
     handed-alike (At w) is finds =
         let e = w .entry in
         let grant : Grant = record { terminal = e .terminal; operation = e .operation } in
-        let made = finishes (record { 0 = u }) (Finished (record { examined = suc (w .place); next = Grants grant })) in
+        let reply = Finished (record { examined = builtExamined (freed s) l (At w); next = Grants grant }) in
         let later = granting (freed s) e (s .waiting - 1) in
         let left = takenOut (s .waiting) (w .place) l in
-        let by : Leaves s l made later left = does none-applies (rw is) in
+        let by : Leaves s l (finish u) reply later left = does none-applies (rw is) in
         let sound = a .is-sound .record-sound in
         let fits : s .waiting ≤ length l = omega (arith, sound .count-most, a .long-list) in
         let (here, there) = found-in-use s l fits (λ e. meetsSet (freed s) (e .operation .0)) w finds in
@@ -222,18 +229,17 @@ module _ (s : Session) (l : List Entry) (i : Line) (a : Alike (s .table) s l i) 
         let entries : map (entryHeard t) (take (s .waiting - 1) left) ≡ without (w .place) (i .waiting) =
         rw (← (a .same-entries)) (taken-heard (entryHeard t) (s .waiting) (w .place) l here fits) in
         record {
-          made = made;
+          reply = reply;
           session = later;
           list = left;
-          its-call = refl;
           leaves = by;
           same-reply = rw (goes-on, picks-same, is);
           still-alike = rw (goes-on, picks-same, is)
-              (alike-after made later left (grants i (entryHeard t e) (without (w .place) (i .waiting))) by refl
+              (alike-after (finish u) reply later left (grants i (entryHeard t e) (without (w .place) (i .waiting))) by refl
               (meets-alike _ moved _ _ same ∙ finds .passes) (shared-alike (e .terminal .0) _ moved _ _ same) refl entries);
         }
 
-    pub finish-alike : Answered t s l i (finish u)
+    finish-alike : Answered t s l i (finish u)
     unfolding builtPick
     finish-alike = handed-alike (builtPick (freed s) l) refl (seek-finds _ (inUse s l))
 
@@ -242,39 +248,35 @@ module _ (s : Session) (l : List Entry) (i : Line) (a : Alike (s .table) s l i) 
     taken-back-alike : (f : Found) → builtEntry s l u ≡ f → Finds (λ e. eqb (e .terminal .0) u) (inUse s l) f → Answered t s l i (withdraw u)
     unfolding step withdrawStep builtEntry
     taken-back-alike Nobody is finds =
-        let made = withdraws (record { 0 = u }) (Withdrawn 0) in
-        let by : Leaves s l made s l = does none-applies (rw is) in
         record {
-          made = made;
+          reply = Withdrawn 0;
           session = s;
           list = l;
-          its-call = refl;
-          leaves = by;
+          leaves = does none-applies (rw is);
           same-reply = rw (goes-on, entry-alike s l i a u, is);
           still-alike = rw (goes-on, entry-alike s l i a u, is) a;
         }
     taken-back-alike (At w) is finds =
-        let made = withdraws (record { 0 = u }) (Withdrawn (w .place)) in
+        let reply = Withdrawn (w .place) in
         let later = counting s (s .waiting - 1) in
         let left = takenOut (s .waiting) (w .place) l in
-        let by : Leaves s l made later left = does none-applies (rw is) in
+        let by : Leaves s l (withdraw u) reply later left = does none-applies (rw is) in
         let fits : s .waiting ≤ length l = omega (arith, a .is-sound .record-sound .count-most, a .long-list) in
         let here = found-in-use s l fits (λ e. eqb (e .terminal .0) u) w finds .0 in
         let after : Line = record { history = i .history; running = i .running; waiting = without (w .place) (i .waiting) } in
         let entries : map (entryHeard t) (take (s .waiting - 1) left) ≡ after .waiting =
         rw (← (a .same-entries)) (taken-heard (entryHeard t) (s .waiting) (w .place) l here fits) in
         record {
-          made = made;
+          reply = reply;
           session = later;
           list = left;
-          its-call = refl;
           leaves = by;
           same-reply = rw (goes-on, entry-alike s l i a u, is);
           still-alike = rw (goes-on, entry-alike s l i a u, is)
-              (alike-after made later left after by refl (a .grants-permitted) (a .its-set) (a .same-runner) entries);
+              (alike-after (withdraw u) reply later left after by refl (a .grants-permitted) (a .its-set) (a .same-runner) entries);
         }
 
-    pub withdraw-alike : Answered t s l i (withdraw u)
+    withdraw-alike : Answered t s l i (withdraw u)
     unfolding builtEntry
     withdraw-alike = taken-back-alike (builtEntry s l u) refl (seek-finds _ (inUse s l))
 
@@ -289,7 +291,7 @@ module _ (s : Session) (l : List Entry) (i : Line) (a : Alike (s .table) s l i) 
       runner (some v) is own = finish-alike u v applies is e
   verdict-alike (withdraw u) none e (applies, _) = withdraw-alike u applies e
 
-  pub own-table-alike : (c : Call) → Answered t s l i c
+  own-table-alike : (c : Call) → Answered t s l i c
   own-table-alike c = verdict-alike c _ refl (tested-alike s l i a c)
 
 -- each call of lines that are alike is answered alike

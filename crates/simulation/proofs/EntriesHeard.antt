@@ -6,13 +6,14 @@ use mathlib.Core.List.{List, [], _∷_, map}
 use Prim.Native.Nat.{ℕ, zero, suc, _-_, _<_, _≤_}
 use native.Mathlib.Nat.{not-suc-le-zero, le-of-suc-le-suc}
 use native.Mathlib.Omega.{arith}
-use lib.ListN.{length, getD, set, take}
-use Rattle.meaning.specs.Waiting.{Entry as Named, Found as Finding, behind as further, seek as look, put, without}
+use lib.ListN.{length, getD, take, length-map}
+use lib.Seq.{length-take-le}
+use Rattle.meaning.specs.Waiting.{Entry as Named, Found as Finding, behind as further, seek as look, placeOf as placed, put, without}
 use Rattle.meaning.specs.Waiting.Found.{nobody, at}
 use Rattle.standing.specs.declared.entries.Entry.{Entry}
 use Rattle.standing.specs.declared.searches.Found.{Found}
 use Rattle.standing.specs.declared.searches.Found.the-variants.{Nobody, At}
-use Rattle.standing.specs.Lists.{blankEntry, movedUp, takenOut, behind, seek}
+use Rattle.standing.specs.Lists.{blankEntry, placeOf, putAt, movedUp, takenOut, behind, seek}
 
 -- entries are read by f
 module _ (f : Entry → Named) where
@@ -36,12 +37,20 @@ module _ (f : Entry → Named) where
       rw (same 0 (omega arith), seek-heard test told es (λ i l. same (suc i) (omega (arith, l))))
       (further-heard (test e) e (seek test es))
 
-  pub put-heard : (n : ℕ) (l : List Entry) (e : Entry) → n < length l
-      → map f (take (suc n) (set l n e)) ≡ put (length (map f (take n l))) (f e) (map f (take n l))
+  -- a new entry gets the same place, and stands there in both
+  pub place-heard : (es : List Entry) (e : Entry) → placed (map f es) (f e) ≡ placeOf es e
+  place-heard es e = rw length-map
+
+  put-last-heard : (n : ℕ) (l : List Entry) (e : Entry) → n < length l
+      → map f (take (suc n) (putAt n e l)) ≡ put (length (map f (take n l))) (f e) (map f (take n l))
   unfolding put
-  put-heard n [] e h = absurd (not-suc-le-zero h)
-  put-heard zero (d ∷ l) e h = refl
-  put-heard (suc n) (d ∷ l) e h = rw (put-heard n l e (le-of-suc-le-suc h))
+  put-last-heard n [] e h = absurd (not-suc-le-zero h)
+  put-last-heard zero (d ∷ l) e h = refl
+  put-last-heard (suc n) (d ∷ l) e h = rw (put-last-heard n l e (le-of-suc-le-suc h))
+
+  pub put-heard : (n : ℕ) (l : List Entry) (e : Entry) → n < length l
+      → map f (take (suc n) (putAt (placeOf (take n l) e) e l)) ≡ put (placed (map f (take n l)) (f e)) (f e) (map f (take n l))
+  put-heard n l e h = rw (length-take-le n l (omega arith)) (put-last-heard n l e h)
 
   moved-heard : (n : ℕ) (l : List Entry) → n ≤ length l → map f (take n (movedUp n l)) ≡ map f (take n l)
   unfolding movedUp

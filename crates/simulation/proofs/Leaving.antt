@@ -1,10 +1,9 @@
 -- What holds of each call, whichever it is: record and list stay sound, entries from 64 on are left, and so are blank places behind those
 -- in use; and a call has one outcome.
-use mathlib.Core.Path.{_≡_, ap}
+use mathlib.Core.Path.{_≡_, ap, subst}
 use mathlib.Core.List.{List}
-use Prim.Native.Nat.{ℕ}
-use native.Mathlib.Omega.{arith}
-use Rattle.standing.specs.declared.numbers.Terminal.{Terminal}
+use Rattle.meaning.specs.Calls.{Call}
+use Rattle.meaning.specs.Calls.Call.{ask, finish, withdraw}
 use Rattle.standing.specs.declared.entries.Entry.{Entry}
 use Rattle.standing.specs.declared.records.Session.{Session}
 use Rattle.standing.specs.Soundness.{Sound}
@@ -13,50 +12,36 @@ use Rattle.steps.proofs.CallsKeep.{ask-keeps, finish-keeps, withdraw-keeps}
 use Rattle.steps.proofs.CallsLeave.{ask-leaves-the-rest, finish-leaves-the-rest, withdraw-leaves-the-rest}
 use Rattle.steps.proofs.CallsBlank.{ask-keeps-blank, finish-keeps-blank, withdraw-keeps-blank}
 use Rattle.steps.proofs.CallsDetermined.{ask-determined, finish-determined, withdraw-determined}
-use Rattle.simulation.specs.Runs.{Made, Leaves}
-use Rattle.simulation.specs.Runs.Made.{asks, finishes, withdraws}
-use Rattle.simulation.specs.Hearing.{callOf}
+use Rattle.simulation.specs.Runs.{ReplyTo, Leaves, Made}
 
-pub leaves-sound : (s s′ : Session) (l l′ : List Entry) (m : Made) → Leaves s l m s′ l′ → Sound s l → Sound s′ l′
-leaves-sound s s′ l l′ (asks u n r) by sound = ask-keeps s s′ l l′ u n r by sound
-leaves-sound s s′ l l′ (finishes u r) by sound = finish-keeps s s′ l l′ u r by sound
-leaves-sound s s′ l l′ (withdraws u r) by sound = withdraw-keeps s s′ l l′ u r by sound
+module _ (s s′ : Session) (l l′ : List Entry) where
+  pub leaves-sound : (c : Call) (r : ReplyTo c) → Leaves s l c r s′ l′ → Sound s l → Sound s′ l′
+  leaves-sound (ask u n) r by sound = ask-keeps s s′ l l′ _ n r by sound
+  leaves-sound (finish u) r by sound = finish-keeps s s′ l l′ _ r by sound
+  leaves-sound (withdraw u) r by sound = withdraw-keeps s s′ l l′ _ r by sound
 
-pub leaves-rest : (s s′ : Session) (l l′ : List Entry) (m : Made) → Leaves s l m s′ l′ → Untouched l l′
-leaves-rest s s′ l l′ (asks u n r) by = ask-leaves-the-rest s s′ l l′ u n r by
-leaves-rest s s′ l l′ (finishes u r) by = finish-leaves-the-rest s s′ l l′ u r by
-leaves-rest s s′ l l′ (withdraws u r) by = withdraw-leaves-the-rest s s′ l l′ u r by
+  pub leaves-rest : (c : Call) (r : ReplyTo c) → Leaves s l c r s′ l′ → Untouched l l′
+  leaves-rest (ask u n) r by = ask-leaves-the-rest s s′ l l′ _ n r by
+  leaves-rest (finish u) r by = finish-leaves-the-rest s s′ l l′ _ r by
+  leaves-rest (withdraw u) r by = withdraw-leaves-the-rest s s′ l l′ _ r by
 
-pub leaves-blank : (s s′ : Session) (l l′ : List Entry) (m : Made) → Leaves s l m s′ l′ → BlankBehind s l → BlankBehind s′ l′
-leaves-blank s s′ l l′ (asks u n r) by blank = ask-keeps-blank s s′ l l′ u n r by blank
-leaves-blank s s′ l l′ (finishes u r) by blank = finish-keeps-blank s s′ l l′ u r by blank
-leaves-blank s s′ l l′ (withdraws u r) by blank = withdraw-keeps-blank s s′ l l′ u r by blank
+  pub leaves-blank : (c : Call) (r : ReplyTo c) → Leaves s l c r s′ l′ → BlankBehind s l → BlankBehind s′ l′
+  leaves-blank (ask u n) r by blank = ask-keeps-blank s s′ l l′ _ n r by blank
+  leaves-blank (finish u) r by blank = finish-keeps-blank s s′ l l′ _ r by blank
+  leaves-blank (withdraw u) r by blank = withdraw-keeps-blank s s′ l l′ _ r by blank
 
--- equal calls have one outcome
-module _ (s : Session) (l : List Entry) (s₁ s₂ : Session) (l₁ l₂ : List Entry) where
-  abbrev Same : Made → Made → Type 0
-  Same m m′ = (m ≡ m′) × (s₁ ≡ s₂) × (l₁ ≡ l₂)
+module _ (s s₁ s₂ : Session) (l l₁ l₂ : List Entry) where
+  pub leaves-one : (c : Call) (r q : ReplyTo c) → Leaves s l c r s₁ l₁ → Leaves s l c q s₂ l₂ → (r ≡ q) × (s₁ ≡ s₂) × (l₁ ≡ l₂)
+  leaves-one (ask u n) r q by by′ = ask-determined s s₁ s₂ l l₁ l₂ _ n r q by by′
+  leaves-one (finish u) r q by by′ = finish-determined s s₁ s₂ l l₁ l₂ _ r q by by′
+  leaves-one (withdraw u) r q by by′ = withdraw-determined s s₁ s₂ l l₁ l₂ _ r q by by′
 
-  abbrev one-terminal : (u v : Terminal) → u .0 ≡ v .0 → u ≡ v
-  one-terminal u v e = ap (λ (x : ℕ). record { 0 = x }) e
-
-  pub leaves-one : (m m′ : Made) → callOf m ≡ callOf m′ → Leaves s l m s₁ l₁ → Leaves s l m′ s₂ l₂ → Same m m′
-  leaves-one (asks u n r) (asks v k q) e by by′ =
-      let who = one-terminal u v cc in
-      let what : n ≡ k = cc in
-      let (same, records, lists) = ask-determined s s₁ s₂ l l₁ l₂ v k r q (rw (who, what) at by) by′ in
-      (rw (who, what, same), records, lists)
-  leaves-one (asks u n r) (finishes v q) e by by′ = let z : _≡_ {A = ℕ} 0 1 = cc in absurd (omega arith)
-  leaves-one (asks u n r) (withdraws v q) e by by′ = let z : _≡_ {A = ℕ} 0 1 = cc in absurd (omega arith)
-  leaves-one (finishes u r) (asks v k q) e by by′ = let z : _≡_ {A = ℕ} 0 1 = cc in absurd (omega arith)
-  leaves-one (finishes u r) (finishes v q) e by by′ =
-      let who = one-terminal u v cc in
-      let (same, records, lists) = finish-determined s s₁ s₂ l l₁ l₂ v r q (rw who at by) by′ in
-      (rw (who, same), records, lists)
-  leaves-one (finishes u r) (withdraws v q) e by by′ = let z : _≡_ {A = ℕ} 0 1 = cc in absurd (omega arith)
-  leaves-one (withdraws u r) (asks v k q) e by by′ = let z : _≡_ {A = ℕ} 0 1 = cc in absurd (omega arith)
-  leaves-one (withdraws u r) (finishes v q) e by by′ = let z : _≡_ {A = ℕ} 0 1 = cc in absurd (omega arith)
-  leaves-one (withdraws u r) (withdraws v q) e by by′ =
-      let who = one-terminal u v cc in
-      let (same, records, lists) = withdraw-determined s s₁ s₂ l l₁ l₂ v r q (rw who at by) by′ in
-      (rw (who, same), records, lists)
+  -- the same of calls that are equal
+  pub made-one : (m d : Made) → m .call ≡ d .call → Leaves s l (m .call) (m .reply) s₁ l₁ → Leaves s l (d .call) (d .reply) s₂ l₂
+      → (m ≡ d) × (s₁ ≡ s₂) × (l₁ ≡ l₂)
+  made-one m d e by by′ =
+      subst (λ (c : Call). (q : ReplyTo c) → Leaves s l c q s₂ l₂ → (m ≡ record { call = c; reply = q }) × (s₁ ≡ s₂) × (l₁ ≡ l₂)) e
+      (λ q by″.
+      let (same, records, lists) = leaves-one (m .call) (m .reply) q by by″ in
+      (ap (λ (r : ReplyTo (m .call)). record { call = m .call; reply = r }) same, records, lists))
+      (d .reply) by′

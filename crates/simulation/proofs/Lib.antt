@@ -1,6 +1,5 @@
 -- Proofs of what specs/Promises.antt promises, lowest first.
 pub mod Histories
-pub mod OperationNames
 pub mod EntriesHeard
 pub mod Leaving
 pub mod Answering

@@ -10,7 +10,8 @@ use Rattle.meaning.proofs.Reduction.{longer-rewritten}
 use Rattle.text.specs.Classes.{classOf}
 use Rattle.text.specs.Tokens.{span, wordToken, signToken, tokenFrom, nextToken}
 use Rattle.grammar.specs.Symbols.{itemsBy, itemsWithin, itemsFrom, items}
-use Rattle.grammar.specs.Machine.{wantStep, haveStep, startStep, stepTo, depthOf, limitAt, namesOn, atEnd, limited, stepped, judgeItem, judgeFrom, judge}
+use Rattle.grammar.specs.Machine.{wantStep, haveStep, startStep, stepTo, depthOf, limitAt, namesOn, atEnd, limited, stepped}
+use Rattle.grammar.specs.Machine.{judgeItem, judgeFrom, judge}
 use Rattle.grammar.specs.Machine.Verdict.{accepted}
 use Rattle.grammar.proofs.Judging.{judged-exactly}
 use Rattle.compiler.specs.Samples.{bytes}
@@ -21,17 +22,14 @@ use Rattle.simulation.proofs.TextsDemand.{rewritten-told-alike}
 abbrev named : (Expr → Expr → Expr → Expr → Expr → Expr → Expr) → Expr
 named path = path (name (bytes "a")) (name (bytes "b")) (name (bytes "c")) (name (bytes "p")) (name (bytes "q")) (name (bytes "r"))
 
-longer-judged : judge longer-path ≡ accepted (named longer)
+-- what the machine says of the two texts
+judged : (judge longer-path ≡ accepted (named longer)) × (judge shorter-path ≡ accepted (named shorter))
 unfolding judge judgeFrom judgeItem stepped limited atEnd namesOn limitAt depthOf stepTo startStep wantStep haveStep items itemsFrom itemsWithin itemsBy nextToken tokenFrom span wordToken signToken classOf key same holds added distinct distinctAfter
-longer-judged = refl
-
-shorter-judged : judge shorter-path ≡ accepted (named shorter)
-unfolding judge judgeFrom judgeItem stepped limited atEnd namesOn limitAt depthOf stepTo startStep wantStep haveStep items itemsFrom itemsWithin itemsBy nextToken tokenFrom span wordToken signToken classOf key same holds added distinct distinctAfter
-shorter-judged = refl
+judged = (refl, refl)
 
 pub report-pair-told-alike : Report-pair-told-alike
 report-pair-told-alike =
     rewritten-told-alike longer-path shorter-path (named longer) (named shorter)
-    (judged-exactly longer-path .accepts (named longer) .0 longer-judged)
-    (judged-exactly shorter-path .accepts (named shorter) .0 shorter-judged)
+    (judged-exactly longer-path .accepts (named longer) .0 (judged .0))
+    (judged-exactly shorter-path .accepts (named shorter) .0 (judged .1))
     (longer-rewritten _ _ _ _ _ _)

@@ -1,6 +1,6 @@
 -- Calls from an opening, by induction on the calls: lines that are alike answer the next call alike and are alike after it, and a call has
 -- one outcome, so that whatever a call left is that.
-use mathlib.Core.Path.{_≡_, refl, sym, ap, ap₂, subst, _∙_}
+use mathlib.Core.Path.{_≡_, refl, ap, ap₂, subst, _∙_}
 use mathlib.Core.List.{List, [], _∷_, map, List·Memᴰ, List·Memᴰ·not-nil, List·Memᴰ·cases-cons}
 use mathlib.Core.Logic.{⊎-elim}
 use mathlib.Core.Option.{some}
@@ -28,24 +28,13 @@ use Rattle.steps.proofs.CallCases.{opened-served}
 use Rattle.steps.proofs.CallsKeep.{opened-sound}
 use Rattle.steps.proofs.CallsBlank.{opened-blank}
 use Rattle.steps.proofs.CallsLeave.{open-leaves-the-rest}
-use Rattle.simulation.specs.Runs.{Made, Leaves, Run}
-use Rattle.simulation.specs.Hearing.{callOf, heard}
+use Rattle.simulation.specs.Runs.{ReplyTo, Leaves, Made, callsOf, Run}
+use Rattle.simulation.specs.Hearing.{exchanged, heard}
 use Rattle.simulation.specs.Likeness.{knownIn, Alike}
-use Rattle.simulation.specs.Promises.{Run-goes-on, Run-simulates}
+use Rattle.simulation.specs.Promises.{Run-simulates}
 use Rattle.simulation.proofs.Leaving.{leaves-one, leaves-rest, leaves-blank}
 use Rattle.simulation.proofs.Answering.{refused-from-ten}
 use Rattle.simulation.proofs.CallsAlike.{call-alike}
-
-pub run-goes-on : Run-goes-on
-unfolding Run
-run-goes-on s s″ l l″ [] ns = (
-  λ run. (s, l, (refl, refl), run),
-  λ (s′, l′, (is, il), run). rw (is, il) at run,
-)
-run-goes-on s s″ l l″ (m ∷ ms) ns = (
-  λ (s₁, l₁, by, run). let (s′, l′, first, rest) = run-goes-on s₁ s″ l₁ l″ ms ns .0 run in (s′, l′, (s₁, l₁, by, first), rest),
-  λ (s′, l′, (s₁, l₁, by, first), rest). (s₁, l₁, by, run-goes-on s₁ s″ l₁ l″ ms ns .1 (s′, l′, first, rest)),
-)
 
 -- it is not refused by 8 or 9
 abbrev FromTen : Exchange → Type 0
@@ -53,10 +42,10 @@ FromTen x = (k : ℕ) → refusalIn x ≡ some k → 10 ≤ k
 
 module _ (t : Table) where
   -- one call: the reply, and the lines after it
-  pub record OneAlike (s₁ : Session) (l₁ : List Entry) (i : Line) (m : Made) : Type 0 where
-    pub same-reply : heard t m ≡ step (tablePermits t) (knownIn t) i (callOf m) .0
-    pub from-ten : FromTen (heard t m)
-    pub still-alike : Alike t s₁ l₁ (step (tablePermits t) (knownIn t) i (callOf m) .1)
+  record OneAlike (s₁ : Session) (l₁ : List Entry) (i : Line) (c : Call) (r : ReplyTo c) : Type 0 where
+    same-reply : exchanged t c r ≡ step (tablePermits t) (knownIn t) i c .0
+    from-ten : FromTen (exchanged t c r)
+    still-alike : Alike t s₁ l₁ (step (tablePermits t) (knownIn t) i c .1)
 
   one-from-ten : (s : Session) (l : List Entry) (i : Line) → Alike t s l i → (c : Call) → FromTen (step (tablePermits t) (knownIn t) i c .0)
   one-from-ten s l i a c k e =
@@ -64,24 +53,25 @@ module _ (t : Table) where
       subst (λ (x : Table). Alike x s l i → refusal (tablePermits x) (knownIn x) i c ≡ some k → 10 ≤ k) (a .its-table)
       (λ b. refused-from-ten s l i b c k) a refused
 
-  one-alike : (s s₁ : Session) (l l₁ : List Entry) (i : Line) (m : Made) → Alike t s l i → Leaves s l m s₁ l₁ → OneAlike s₁ l₁ i m
-  one-alike s s₁ l l₁ i m a by =
-      let x = call-alike t s l i a (callOf m) in
-      let (same, records, lists) = leaves-one s l s₁ (x .session) l₁ (x .list) m (x .made) (sym (x .its-call)) by (x .leaves) in
-      let reply : heard t m ≡ step (tablePermits t) (knownIn t) i (callOf m) .0 = ap (heard t) same ∙ x .same-reply in
+  one-alike : (s s₁ : Session) (l l₁ : List Entry) (i : Line) (c : Call) (r : ReplyTo c) → Alike t s l i → Leaves s l c r s₁ l₁
+      → OneAlike s₁ l₁ i c r
+  one-alike s s₁ l l₁ i c r a by =
+      let x = call-alike t s l i a c in
+      let (same, records, lists) = leaves-one s s₁ (x .session) l l₁ (x .list) c r (x .reply) by (x .leaves) in
+      let reply : exchanged t c r ≡ step (tablePermits t) (knownIn t) i c .0 = ap (exchanged t c) same ∙ x .same-reply in
       record {
         same-reply = reply;
-        from-ten = rw reply (one-from-ten s l i a (callOf m));
+        from-ten = rw reply (one-from-ten s l i a c);
         still-alike = rw (records, lists) (x .still-alike);
       }
 
   -- any calls
-  pub record RunAlike (s′ : Session) (l l′ : List Entry) (i : Line) (ms : List Made) : Type 0 where
-    pub same-replies : map (heard t) ms ≡ talk (tablePermits t) (knownIn t) i (map callOf ms)
-    pub all-from-ten : (m : Made) → List·Memᴰ m ms → FromTen (heard t m)
-    pub still-alike : Alike t s′ l′ (after (tablePermits t) (knownIn t) i (map callOf ms))
-    pub still-blank : BlankBehind s′ l′
-    pub still-untouched : Untouched l l′
+  record RunAlike (s′ : Session) (l l′ : List Entry) (i : Line) (ms : List Made) : Type 0 where
+    same-replies : map (heard t) ms ≡ talk (tablePermits t) (knownIn t) i (callsOf ms)
+    all-from-ten : (m : Made) → List·Memᴰ m ms → FromTen (heard t m)
+    still-alike : Alike t s′ l′ (after (tablePermits t) (knownIn t) i (callsOf ms))
+    still-blank : BlankBehind s′ l′
+    still-untouched : Untouched l l′
 
   run-alike : (s s′ : Session) (l l′ : List Entry) (i : Line) (ms : List Made) → Alike t s l i → BlankBehind s l → Run s l ms s′ l′
       → RunAlike s′ l l′ i ms
@@ -96,9 +86,9 @@ module _ (t : Table) where
         still-untouched = (refl, λ j h. refl);
       })
   run-alike s s′ l l′ i (m ∷ ms) a blank (s₁, l₁, by, run) =
-      let one = one-alike s s₁ l l₁ i m a by in
-      let rest = run-alike s₁ s′ l₁ l′ _ ms (one .still-alike) (leaves-blank s s₁ l l₁ m by blank) run in
-      let touched = leaves-rest s s₁ l l₁ m by in
+      let one = one-alike s s₁ l l₁ i (m .call) (m .reply) a by in
+      let rest = run-alike s₁ s′ l₁ l′ _ ms (one .still-alike) (leaves-blank s s₁ l l₁ (m .call) (m .reply) by blank) run in
+      let touched = leaves-rest s s₁ l l₁ (m .call) (m .reply) by in
       record {
         same-replies = ap₂ (λ (x : Exchange) (xs : List Exchange). x ∷ xs) (one .same-reply) (rest .same-replies);
         all-from-ten = λ d here. ⊎-elim (λ is. rw is (one .from-ten)) (rest .all-from-ten d) (List·Memᴰ·cases-cons here);
@@ -113,7 +103,7 @@ module _ (t : Table) where
     unfolding openStep
     opened-so = opened-served (λ o. (o .session ≡ built.opening t) × (o .list ≡ blanked 64 l)) opens refl (λ none. (refl, refl))
 
-    pub long-enough : 64 ≤ length l
+    long-enough : 64 ≤ length l
     long-enough =
         opened-served (λ o. 64 ≤ length l) opens refl
         (λ none. let long : ¬ (length l < 64) = λ short. none 8 (short-list short) in omega arith)
@@ -141,7 +131,7 @@ run-simulates t ms s l run =
     let behind = opened-blank (run .lent) first (run .list) blank t Opened (run .opens) refl in
     let rest = open-leaves-the-rest (run .lent) first (run .list) blank t Opened (run .opens) in
     let all = run-alike t first s blank l opening ms alike behind (run .runs) in
-    let grants = ap (λ (j : Line). j .history) (line-keeps-its-promises (tablePermits t) (knownIn t) .line-is-heard (map callOf ms)) in
+    let grants = ap (λ (j : Line). j .history) (line-keeps-its-promises (tablePermits t) (knownIn t) .line-is-heard (callsOf ms)) in
     record {
       same-replies = all .same-replies;
       alike = all .still-alike;

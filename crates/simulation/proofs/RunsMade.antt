@@ -1,7 +1,7 @@
--- Any calls can be made from an opening over a sound table, and have one outcome: each call of lines that are alike has an answer, and no
--- call has two.
-use mathlib.Core.Path.{_≡_, refl, sym, ap₂, _∙_}
-use mathlib.Core.List.{List, [], _∷_, map}
+-- Runs of calls: one goes on with what the calls before left; any calls can be made from an opening over a sound table, since each call of
+-- lines that are alike has an answer; and they have one outcome, since no call has two.
+use mathlib.Core.Path.{_≡_, refl, sym, ap, ap₂, _∙_}
+use mathlib.Core.List.{List, [], _∷_}
 use Prim.Native.Nat.{ℕ, _≤_}
 use native.Mathlib.Omega.{arith}
 use lib.ListN.{length}
@@ -19,13 +19,23 @@ use Rattle.steps.specs.Refusals.{OpenRow, None}
 use Rattle.steps.specs.Refusals.OpenRow.{short-list, unsound-table}
 use Rattle.steps.specs.Steps.{openStep}
 use Rattle.steps.specs.Steps as built
-use Rattle.simulation.specs.Runs.{Made, Run}
-use Rattle.simulation.specs.Hearing.{callOf}
+use Rattle.simulation.specs.Runs.{Made, callsOf, Run}
 use Rattle.simulation.specs.Likeness.{Alike}
-use Rattle.simulation.specs.Promises.{Calls-can-be-made, Runs-determined}
-use Rattle.simulation.proofs.Leaving.{leaves-one}
+use Rattle.simulation.specs.Promises.{Run-goes-on, Calls-can-be-made, Runs-determined}
+use Rattle.simulation.proofs.Leaving.{made-one}
 use Rattle.simulation.proofs.CallsAlike.{call-alike}
 use Rattle.simulation.proofs.RunsAlike.{opened-so, opening-alike}
+
+pub run-goes-on : Run-goes-on
+unfolding Run
+run-goes-on s s″ l l″ [] ns = (
+  λ run. (s, l, (refl, refl), run),
+  λ (s′, l′, (is, il), run). rw (is, il) at run,
+)
+run-goes-on s s″ l l″ (m ∷ ms) ns = (
+  λ (s₁, l₁, by, run). let (s′, l′, first, rest) = run-goes-on s₁ s″ l₁ l″ ms ns .0 run in (s′, l′, (s₁, l₁, by, first), rest),
+  λ (s′, l′, (s₁, l₁, by, first), rest). (s₁, l₁, by, run-goes-on s₁ s″ l₁ l″ ms ns .1 (s′, l′, first, rest)),
+)
 
 -- some calls can be made of record s and list l
 record Makes (s : Session) (l : List Entry) (cs : List Call) : Type 0 where
@@ -33,7 +43,7 @@ record Makes (s : Session) (l : List Entry) (cs : List Call) : Type 0 where
   session : Session
   list : List Entry
   run : Run s l made session list
-  those-calls : map callOf made ≡ cs
+  those-calls : callsOf made ≡ cs
 
 makes-any : (t : Table) (s : Session) (l : List Entry) (i : Line) → Alike t s l i → (cs : List Call) → Makes s l cs
 unfolding Run
@@ -42,11 +52,11 @@ makes-any t s l i a (c ∷ cs) =
     let one = call-alike t s l i a c in
     let rest = makes-any t (one .session) (one .list) _ (one .still-alike) cs in
     record {
-      made = one .made ∷ rest .made;
+      made = record { call = c; reply = one .reply } ∷ rest .made;
       session = rest .session;
       list = rest .list;
       run = (one .session, one .list, one .leaves, rest .run);
-      those-calls = ap₂ (λ (d : Call) (ds : List Call). d ∷ ds) (one .its-call) (rest .those-calls);
+      those-calls = ap (λ (ds : List Call). c ∷ ds) (rest .those-calls);
     }
 
 -- over a sound table, on a list that is long enough, no opening is refused
@@ -76,15 +86,15 @@ calls-can-be-made t sound s l long cs =
 
 -- equal calls of one record and list leave the same
 runs-one : (s s₁ s₂ : Session) (l l₁ l₂ : List Entry) (ms₁ ms₂ : List Made) → Run s l ms₁ s₁ l₁ → Run s l ms₂ s₂ l₂
-    → map callOf ms₁ ≡ map callOf ms₂ → (ms₁ ≡ ms₂) × (s₁ ≡ s₂) × (l₁ ≡ l₂)
+    → callsOf ms₁ ≡ callsOf ms₂ → (ms₁ ≡ ms₂) × (s₁ ≡ s₂) × (l₁ ≡ l₂)
 unfolding Run
 runs-one s s₁ s₂ l l₁ l₂ [] [] (is, il) (js, jl) e = (refl, is ∙ sym js, il ∙ sym jl)
 runs-one s s₁ s₂ l l₁ l₂ [] (m ∷ ms) run₁ run₂ e = let z : _≡_ {A = ℕ} 0 1 = cc in absurd (omega arith)
 runs-one s s₁ s₂ l l₁ l₂ (m ∷ ms) [] run₁ run₂ e = let z : _≡_ {A = ℕ} 0 1 = cc in absurd (omega arith)
 runs-one s s₁ s₂ l l₁ l₂ (m ∷ ms) (d ∷ ds) (s₃, l₃, by, run₁) (s₄, l₄, by′, run₂) e =
-    let first : callOf m ≡ callOf d = cc in
-    let others : map callOf ms ≡ map callOf ds = cc in
-    let (same, records, lists) = leaves-one s l s₃ s₄ l₃ l₄ m d first by by′ in
+    let first : m .call ≡ d .call = cc in
+    let others : callsOf ms ≡ callsOf ds = cc in
+    let (same, records, lists) = made-one s s₃ s₄ l l₃ l₄ m d first by by′ in
     let (rest, ends, left) = runs-one s₄ s₁ s₂ l₄ l₁ l₂ ms ds (rw (records, lists) at run₁) run₂ others in
     (ap₂ (λ (x : Made) (xs : List Made). x ∷ xs) same rest, ends, left)
 

@@ -1,7 +1,6 @@
 -- What can be seen of the built line is what can be seen of the ideal line: whatever calls were made, the simulation says what was seen,
 -- and any calls can be made. So the built line keeps demand 3, because the ideal line does.
 use mathlib.Core.Path.{refl, sym, _∙_}
-use mathlib.Core.List.{map}
 use mathlib.Core.Logic.{Iff·rfl, Iff·symm}
 use native.Mathlib.Omega.{arith}
 use lib.ListN.{replicate, length-replicate}
@@ -12,7 +11,8 @@ use Rattle.meaning.proofs.DemandCarries.{demand-3-carries}
 use Rattle.table.specs.Following.{tablePermits}
 use Rattle.standing.specs.Lists.{blankEntry}
 use Rattle.steps.specs.Steps as built
-use Rattle.simulation.specs.Hearing.{callOf, Seen}
+use Rattle.simulation.specs.Runs.{callsOf}
+use Rattle.simulation.specs.Hearing.{Seen}
 use Rattle.simulation.specs.Likeness.{knownIn}
 use Rattle.simulation.specs.Promises.{Built-as-ideal, Tables-keep-demand-3}
 use Rattle.simulation.proofs.RunsAlike.{run-simulates}
@@ -23,7 +23,7 @@ built-as-ideal t sound xs es = (
   λ seen.
       let same = run-simulates t (seen .made) (seen .session) (seen .list) (seen .run) in
       record {
-        calls = map callOf (seen .made);
+        calls = callsOf (seen .made);
         replies = sym (same .same-replies) ∙ seen .replies;
         entries = sym (same .alike .same-entries) ∙ seen .entries;
       },

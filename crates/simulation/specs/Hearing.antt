@@ -1,17 +1,15 @@
 -- What is heard of the built line's calls and seen of its list, operations read by name.
 use mathlib.Core.Path.{_≡_}
-use mathlib.Core.List.{List, [], map}
+use mathlib.Core.List.{List, map}
 use mathlib.Core.Option.{Option, some, none}
 use Prim.Native.Nat.{ℕ}
-use lib.ListN.{getD}
-use Rattle.meaning.specs.Names.{Name, key}
 use Rattle.meaning.specs.Waiting.{Entry as Named}
 use Rattle.meaning.specs.Calls.{Call, Reply, Grant, AskReply as AskHeard, FinishReply as FinishHeard, Exchange}
 use Rattle.meaning.specs.Calls.Call.{ask, finish, withdraw}
 use Rattle.meaning.specs.Calls.Reply.{done, refused}
 use Rattle.meaning.specs.Calls.AskReply.{granted, delayed}
 use Rattle.meaning.specs.Calls.Exchange.{asked, finished, withdrew}
-use Rattle.table.specs.Cells.{namesOf}
+use Rattle.table.specs.Following.{nameIn}
 use Rattle.table.specs.declared.cells.Table.{Table}
 use Rattle.standing.specs.declared.entries.Entry.{Entry}
 use Rattle.standing.specs.declared.records.Session.{Session}
@@ -24,12 +22,7 @@ use Rattle.steps.specs.declared.replies.FinishReply.{FinishReply}
 use Rattle.steps.specs.declared.replies.FinishReply.the-variants.{Finished, Refused as FinishRefused}
 use Rattle.steps.specs.declared.replies.WithdrawReply.{WithdrawReply}
 use Rattle.steps.specs.declared.replies.WithdrawReply.the-variants.{Withdrawn, Refused as WithdrawRefused}
-use Rattle.simulation.specs.Runs.{Made, FromOpening}
-use Rattle.simulation.specs.Runs.Made.{asks, finishes, withdraws}
-
--- the key of the name of operation o
-abbrev pub nameIn : Table → ℕ → Name
-nameIn t o = key (getD (namesOf t) o [])
+use Rattle.simulation.specs.Runs.{ReplyTo, Made, FromOpening}
 
 -- an entry of the list
 abbrev pub entryHeard : Table → Entry → Named
@@ -53,16 +46,14 @@ abbrev pub withdrawHeard : WithdrawReply → Reply ℕ
 withdrawHeard (Withdrawn p) = done p
 withdrawHeard (WithdrawRefused m) = refused m
 
--- the call, and the call with its reply
-abbrev pub callOf : Made → Call
-callOf (asks u n r) = ask (u .0) n
-callOf (finishes u r) = finish (u .0)
-callOf (withdraws u r) = withdraw (u .0)
+-- a call with its reply
+abbrev pub exchanged : Table → (c : Call) → ReplyTo c → Exchange
+exchanged t (ask u n) r = asked u n (askHeard r)
+exchanged t (finish u) r = finished u (finishHeard t r)
+exchanged t (withdraw u) r = withdrew u (withdrawHeard r)
 
 abbrev pub heard : Table → Made → Exchange
-heard t (asks u n r) = asked (u .0) n (askHeard r)
-heard t (finishes u r) = finished (u .0) (finishHeard t r)
-heard t (withdraws u r) = withdrew (u .0) (withdrawHeard r)
+heard t m = exchanged t (m .call) (m .reply)
 
 -- what can be seen of a line over table t: calls from an opening get these replies, and leave these entries in use
 pub record Seen (t : Table) (xs : List Exchange) (es : List Named) : Type 0 where

@@ -25,7 +25,7 @@ use Rattle.simulation.specs.Hearing.{entryHeard}
 abbrev pub knownIn : Table → Name → Bool
 knownIn t k = holds (namesOf t) k
 
--- "either free or the running terminal"
+-- the running terminal, or none where the record is free
 abbrev pub runnerIn : State → Option ℕ
 runnerIn Free = none
 runnerIn (Running u) = some (u .0)
@@ -35,9 +35,9 @@ abbrev pub setOf : Table → List Name → ℕ
 setOf t h = setAfter (t .rows) (permissionOf t) (t .start) h
 
 -- s is the set after the grants h: of a free line all are finished; of one that runs the last is not, and the set is what it shared
-abbrev pub SetAfter : Table → Option ℕ → List Name → ℕ → Type 0
-SetAfter t none h s = s ≡ setOf t h
-SetAfter t (some u) h s = (g : List Name) × (k : Name) × (h ≡ g ++ k ∷ []) × (s ≡ bitAnd (setOf t g) (permissionOf t k))
+abbrev pub SetStands : Table → Option ℕ → List Name → ℕ → Type 0
+SetStands t none h s = s ≡ setOf t h
+SetStands t (some u) h s = (g : List Name) × (k : Name) × (h ≡ g ++ k ∷ []) × (s ≡ bitAnd (setOf t g) (permissionOf t k))
 
 -- the simulation relation: record s and list l of table t, and the ideal line i
 pub record Alike (t : Table) (s : Session) (l : List Entry) (i : Line) : Type 0 where
@@ -46,7 +46,7 @@ pub record Alike (t : Table) (s : Session) (l : List Entry) (i : Line) : Type 0 
   pub long-list : 64 ≤ length l
   -- the grants in order are permitted, and the set is the set after them
   pub grants-permitted : tablePermits t (i .history) ≡ true
-  pub its-set : SetAfter t (i .running) (i .history) (s .set)
+  pub its-set : SetStands t (i .running) (i .history) (s .set)
   -- the same terminal runs, or none; the same entries wait, operations read by name
   pub same-runner : runnerIn (s .state) ≡ i .running
   pub same-entries : map (entryHeard t) (inUse s l) ≡ i .waiting

@@ -18,9 +18,9 @@ use Rattle.table.specs.declared.cells.Table.{Table}
 use Rattle.standing.specs.declared.entries.Entry.{Entry}
 use Rattle.standing.specs.declared.records.Session.{Session}
 use Rattle.steps.specs.Promises.{Untouched, BlankBehind}
-use Rattle.simulation.specs.Runs.{Made, Run, FromOpening}
-use Rattle.simulation.specs.Hearing.{callOf, heard, Seen}
-use Rattle.simulation.specs.Likeness.{knownIn, runnerIn, SetAfter, Alike}
+use Rattle.simulation.specs.Runs.{Made, callsOf, Run, FromOpening}
+use Rattle.simulation.specs.Hearing.{heard, Seen}
+use Rattle.simulation.specs.Likeness.{knownIn, runnerIn, SetStands, Alike}
 
 -- a run of calls is a run of the first of them, and then of the others: so there are a record and a list after each
 abbrev pub Run-goes-on : Type 0
@@ -36,7 +36,7 @@ pub record Can-be-made (t : Table) (s : Session) (l : List Entry) (cs : List Cal
   pub run : FromOpening t made session list
   pub on-that-record : run .lent ≡ s
   pub on-that-list : run .list ≡ l
-  pub those-calls : map callOf made ≡ cs
+  pub those-calls : callsOf made ≡ cs
 
 abbrev pub Calls-can-be-made : Type 0
 Calls-can-be-made =
@@ -46,17 +46,17 @@ Calls-can-be-made =
 abbrev pub Runs-determined : Type 0
 Runs-determined =
     (t : Table) (ms₁ ms₂ : List Made) (s₁ s₂ : Session) (l₁ l₂ : List Entry)
-    → (run₁ : FromOpening t ms₁ s₁ l₁) (run₂ : FromOpening t ms₂ s₂ l₂) → run₁ .list ≡ run₂ .list → map callOf ms₁ ≡ map callOf ms₂
+    → (run₁ : FromOpening t ms₁ s₁ l₁) (run₂ : FromOpening t ms₂ s₂ l₂) → run₁ .list ≡ run₂ .list → callsOf ms₁ ≡ callsOf ms₂
     → (ms₁ ≡ ms₂) × (s₁ ≡ s₂) × (l₁ ≡ l₂)
 
 -- the simulation: after any calls from an opening
 pub record Simulated (t : Table) (ms : List Made) (s : Session) (l : List Entry) (run : FromOpening t ms s l) : Type 0 where
   -- the replies, operations read by name, are those of the ideal line to the same calls
-  pub same-replies : map (heard t) ms ≡ talk (tablePermits t) (knownIn t) opening (map callOf ms)
+  pub same-replies : map (heard t) ms ≡ talk (tablePermits t) (knownIn t) opening (callsOf ms)
   -- record and list are sound, and the entries in use, operations read by name, are those of the ideal line
-  pub alike : Alike t s l (after (tablePermits t) (knownIn t) opening (map callOf ms))
+  pub alike : Alike t s l (after (tablePermits t) (knownIn t) opening (callsOf ms))
   -- the set is the set after the history of grants, as calls and replies show it
-  pub its-set : SetAfter t (runnerIn (s .state)) (grantedNames (account (map (heard t) ms))) (s .set)
+  pub its-set : SetStands t (runnerIn (s .state)) (grantedNames (account (map (heard t) ms))) (s .set)
   -- the list behind the entries in use: blank up to 64, and then as it was lent
   pub blank-behind : BlankBehind s l
   pub rest-as-lent : Untouched (run .list) l

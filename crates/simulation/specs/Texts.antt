@@ -42,7 +42,7 @@ pub record Told-alike (text text′ : List ℕ) : Type 0 where
   -- and whatever can be seen of one can be seen of the other
   pub same-seen : (xs : List Exchange) (es : List Named) → TextSeen text xs es ↔ TextSeen text′ xs es
 
--- "Two texts that permit the same histories cannot be told apart by any terminal"
+-- two texts that permit the same histories cannot be told apart by any terminal
 abbrev pub Same-histories-told-alike : Type 0
 Same-histories-told-alike =
     (text text′ : List ℕ) (x y : Expr) → Accepted text x → Accepted text′ y → ((h : List Name) → Begins x h ↔ Begins y h)
@@ -54,7 +54,7 @@ Told-alike-same-histories =
     (text text′ : List ℕ) (x y : Expr) → Accepted text x → Accepted text′ y → Told-alike text text′
     → (h : List Name) → Begins x h ↔ Begins y h
 
--- "so neither can the report's four rewritings": any number of them, in either direction, for any parts and at any place inside a path,
+-- so neither can the report's four rewritings: any number of them, in either direction, for any parts and at any place inside a path,
 -- sequences and choices regrouped freely
 abbrev pub Rewritten-told-alike : Type 0
 Rewritten-told-alike =

@@ -46,6 +46,28 @@ found-says : (test : Entry → Bool) (es : List Entry) (f : Found) → Finds tes
 found-says test es Nobody finds = (λ h. absurd (false≢true h), λ h. absurd (false≢true (sym (finds (h .0) (h .1)) ∙ h .2)))
 found-says test es (At w) finds = (λ h. (w .place, finds .there, rw (finds .entry-there) (finds .passes)), λ h. refl)
 
+-- a terminal waits if its entry is found among those in use
+pub entry-waits : (s : Session) (l : List Entry) (u : ℕ) → 64 ≤ length l → RecordSound s
+    → (isFound (seek (λ e. eqb (e .terminal .0) u) (inUse s l)) ≡ true) ↔ Waits s l u
+entry-waits s l u long r =
+    let test : Entry → Bool = λ e. eqb (e .terminal .0) u in
+    let says = found-says test (inUse s l) (seek test (inUse s l)) (seek-finds test (inUse s l)) in
+    let count = in-use s l (record { 0 = u }) 0 long r in (
+      λ h.
+          let i = says .0 h in
+          let there : i .0 < s .waiting = omega (arith, i .1, count) in (
+            i .0,
+            there,
+            ap (λ (e : Entry). e .terminal .0) (sym (getD-take (s .waiting) l (i .0) blankEntry there)) ∙ eqb-true _ _ (i .2),
+          ),
+      λ h.
+          says .1 (
+            h .0,
+            omega (arith, h .1, count),
+            eq-eqb _ _ (ap (λ (e : Entry). e .terminal .0) (getD-take (s .waiting) l (h .0) blankEntry (h .1)) ∙ h .2),
+          ),
+    )
+
 module _ (s : Session) (l : List Entry) (t : Terminal) (w : ℕ) where
   abbrev pub found : Search
   found = looked 0 (searching s t w) (inUse s l)
@@ -56,25 +78,7 @@ module _ (s : Session) (l : List Entry) (t : Terminal) (w : ℕ) where
 
   -- the waiting terminals
   pub waits-says : 64 ≤ length l → RecordSound s → (isFound (found .own) ≡ true) ↔ Waits s l (t .0)
-  waits-says long r =
-      let test : Entry → Bool = λ e. eqb (e .terminal .0) (t .0) in
-      let says = found-says test (inUse s l) (seek test (inUse s l)) (seek-finds test (inUse s l)) in
-      let count = in-use s l t w long r in
-      rw own-found (
-        λ h.
-            let i = says .0 h in
-            let there : i .0 < s .waiting = omega (arith, i .1, count) in (
-              i .0,
-              there,
-              ap (λ (e : Entry). e .terminal .0) (sym (getD-take (s .waiting) l (i .0) blankEntry there)) ∙ eqb-true _ _ (i .2),
-            ),
-        λ h.
-            says .1 (
-              h .0,
-              omega (arith, h .1, count),
-              eq-eqb _ _ (ap (λ (e : Entry). e .terminal .0) (getD-take (s .waiting) l (h .0) blankEntry (h .1)) ∙ h .2),
-            ),
-      )
+  waits-says long r = rw own-found (entry-waits s l (t .0) long r)
 
   -- what holds of a call that is past 8, 9 and 10
   pub record Passed : Type 0 where

@@ -19,6 +19,8 @@ pub mod FreshNames
 pub mod SoundNames
 pub mod SoundTests
 pub mod Determined
+-- What a sound table's names say.
+pub mod OperationNames
 -- The table of an expression: the promises of specs/Promises.antt, lowest first.
 pub mod Padding
 pub mod Spelled

@@ -3,8 +3,8 @@ use mathlib.Core.Bool.{Bool, cond}
 use mathlib.Core.List.{List, [], _∷_}
 use Prim.Native.Nat.{ℕ, _+_, _*_}
 use lib.Dec.{eqb}
-use lib.ListN.{take}
-use Rattle.meaning.specs.Names.{Name}
+use lib.ListN.{getD, take}
+use Rattle.meaning.specs.Names.{Name, key}
 use Rattle.meaning.specs.Operations.{holds, numberOf}
 use Rattle.meaning.specs.Following.{permits}
 use Rattle.table.specs.declared.numbers.Operation.{Operation}
@@ -21,6 +21,10 @@ positionsWith (x ∷ xs) o = cond (eqb (x .0) o) 1 0 + 2 * positionsWith xs o
 -- "the permission set of an operation is all its positions"
 unfoldable pub permissionSet : Table → ℕ → ℕ
 permissionSet t o = positionsWith (take (t .positions) (t .operations)) o
+
+-- the key of the name of operation o
+abbrev pub nameIn : Table → ℕ → Name
+nameIn t o = key (getD (namesOf t) o [])
 
 -- the operation of the name of key k
 unfoldable pub foundIn : List Name → Name → Found

@@ -14,11 +14,10 @@ use Rattle.meaning.proofs.OperationLaws.{at-held}
 use Rattle.meaning.proofs.NumberLaws.{held-below, number-held}
 use Rattle.meaning.proofs.SetLaws.{below-or-not}
 use Rattle.text.specs.Tokens.{wellFormed, nextToken, tokenFrom, span}
 use Rattle.table.specs.Cells.{spellings, namesOf}
-use Rattle.table.specs.Following.{permissionSet, foundIn, permissionOf}
+use Rattle.table.specs.Following.{permissionSet, nameIn, foundIn, permissionOf}
 use Rattle.table.specs.Soundness.{Sound, spelling}
 use Rattle.table.specs.declared.cells.Table.{Table}
-use Rattle.simulation.specs.Hearing.{nameIn}
 
 -- no name is empty
 empty-not-well-formed : wellFormed [] ≡ false
@@ -48,10 +47,10 @@ module _ (t : Table) (sound : Sound t) where
   unfolding namesOf
   name-spelled o h = getD-take (t .names) ns o [] h
 
-  pub name-known : (o : ℕ) → o < t .names → holds (namesOf t) (nameIn t o) ≡ true
+  name-known : (o : ℕ) → o < t .names → holds (namesOf t) (nameIn t o) ≡ true
   name-known o h = at-held (namesOf t) (nameIn t o) o (omega (arith, all-named)) refl
 
-  pub own-number : (o : ℕ) → o < t .names → numberOf (namesOf t) (nameIn t o) ≡ o
+  own-number : (o : ℕ) → o < t .names → numberOf (namesOf t) (nameIn t o) ≡ o
   own-number o h =
       let k = nameIn t o in
       let below = held-below (namesOf t) k (name-known o h) in
