@@ -15,10 +15,9 @@ use Rattle.standing.specs.Lists.{blanked}
 use Rattle.steps.specs.declared.replies.OpenReply.the-variants.{Opened}
 use Rattle.steps.specs.Calling.{Opens}
 use Rattle.steps.specs.Calling.Serves.{does}
-use Rattle.steps.specs.Refusals.{OpenRow, None}
-use Rattle.steps.specs.Refusals.OpenRow.{short-list, unsound-table}
 use Rattle.steps.specs.Steps.{openStep}
 use Rattle.steps.specs.Steps as built
+use Rattle.steps.proofs.OpenServed.{open-rows-left}
 use Rattle.simulation.specs.Runs.{Made, callsOf, Run}
 use Rattle.simulation.specs.Likeness.{Alike}
 use Rattle.simulation.specs.Promises.{Run-goes-on, Calls-can-be-made, Runs-determined}
@@ -60,14 +59,10 @@ makes-any t s l i a (c ∷ cs) =
     }
 
 -- over a sound table, on a list that is long enough, no opening is refused
-none-refuses : (t : Table) (l : List Entry) → TableSound t → 64 ≤ length l → None (OpenRow t l)
-none-refuses t l sound long m (short-list short) = omega arith
-none-refuses t l sound long m (unsound-table unsound) = unsound sound
-
 opens-always : (t : Table) (s : Session) (l : List Entry) → TableSound t → 64 ≤ length l
     → Opens s l t Opened (built.opening t) (blanked 64 l)
 unfolding openStep
-opens-always t s l sound long = does (none-refuses t l sound long) refl
+opens-always t s l sound long = does (λ m row. open-rows-left t l row .2 long sound) refl
 
 pub calls-can-be-made : Calls-can-be-made
 calls-can-be-made t sound s l long cs =

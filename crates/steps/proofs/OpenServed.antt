@@ -23,9 +23,9 @@ use Rattle.steps.specs.Calling.Serves.{refuses, does}
 use Rattle.steps.specs.Values.{openValue, OpenedBy}
 
 -- the rows that are left where 8 does not apply, and none where 9 does not either
-rows-left : (t : Table) (l : List Entry) {k : ℕ} → OpenRow t l k → (8 ≤ k) × (64 ≤ length l → 9 ≤ k) × (64 ≤ length l → TableSound t → ⊥)
-rows-left t l (short-list h) = (omega arith, λ long. absurd (omega arith), λ long d. absurd (omega arith))
-rows-left t l (unsound-table h) = (omega arith, λ long. omega arith, λ long d. h d)
+pub open-rows-left : (t : Table) (l : List Entry) {k : ℕ} → OpenRow t l k → (8 ≤ k) × (64 ≤ length l → 9 ≤ k) × (64 ≤ length l → TableSound t → ⊥)
+open-rows-left t l (short-list h) = (omega arith, λ long. absurd (omega arith), λ long d. absurd (omega arith))
+open-rows-left t l (unsound-table h) = (omega arith, λ long. omega arith, λ long d. h d)
 
 module _ (s : Session) (l : List Entry) (t : Table) where
   abbrev outcome : Opened → Outcome
@@ -41,10 +41,10 @@ module _ (s : Session) (l : List Entry) (t : Table) where
       (refuses 9
       (record {
         applies = unsound-table (λ d. false≢true (says .1 d));
-        none-before = λ k before row. absurd (omega (arith, before, rows-left t l row .1 long));
+        none-before = λ k before row. absurd (omega (arith, before, open-rows-left t l row .1 long));
       })
       refl)
-  long-served long true says = rw (le-ltb (length l) 64 long) (does (λ m row. rows-left t l row .2 long (says .0 refl)) refl)
+  long-served long true says = rw (le-ltb (length l) 64 long) (does (λ m row. open-rows-left t l row .2 long (says .0 refl)) refl)
 
   pub open-served : (b : Bool) → (b ≡ true) ↔ TableSound t → Good (openValue b s (length l) t)
   unfolding openValue blanked
@@ -53,7 +53,7 @@ module _ (s : Session) (l : List Entry) (t : Table) where
       (λ short.
       rw (lt-ltb (length l) 64 short)
       (refuses 8
-      (record { applies = short-list short; none-before = λ k before row. absurd (omega (arith, before, rows-left t l row .0)) }) refl))
+      (record { applies = short-list short; none-before = λ k before row. absurd (omega (arith, before, open-rows-left t l row .0)) }) refl))
       (λ long. long-served long b says)
       (below-or-not (length l) 64)
 
