@@ -21,7 +21,7 @@ use Rattle.meaning.specs.Demand.Handed.{longest-goes, nobody-goes}
 use Rattle.meaning.specs.Demand.Examined.{up-to-the-granted, all-of-them}
 use Rattle.meaning.specs.LinePromises.{Demand-3-determined}
 use Rattle.meaning.proofs.WaitingLaws.{stands-between}
-use Rattle.meaning.proofs.OneMoreCall.{ReplyTo, told, no-calls, one-more-call}
+use Rattle.meaning.proofs.OneMoreCall.{ToldTo, told, no-calls, one-more-call}
 
 -- a list is split at its first entry that is P in one way
 module _ (P : Entry → Type 0) (after after′ : List Entry) {e e′ : Entry} (is : P e) (is′ : P e′) where
@@ -86,7 +86,7 @@ replies-alike S S′ same (refused m) (refused m′) h h′ d d′ = cc (d′ m 
 module _ {Seen Seen′ : List Exchange → List Entry → Type 0} {Permitted : List Name → Type 0} {Known : Name → Type 0}
     (keeps : Demand-3 Seen Permitted Known) (keeps′ : Demand-3 Seen′ Permitted Known) where
   -- the same call after the same exchanges gets the same reply
-  reply-alike : (xs : List Exchange) (es es′ : List Entry) (x : Exchange) (r : ReplyTo (callIn x))
+  reply-alike : (xs : List Exchange) (es es′ : List Entry) (x : Exchange) (r : ToldTo (callIn x))
       → Seen (xs ++ x ∷ []) es → Seen′ (xs ++ told (callIn x) r ∷ []) es′ → x ≡ told (callIn x) r
   reply-alike xs es es′ (asked t n r) r′ h h′ =
       ap (asked t n)

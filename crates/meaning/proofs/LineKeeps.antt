@@ -9,7 +9,7 @@ use Rattle.meaning.specs.Calls.{Exchange, callIn, refusalIn}
 use Rattle.meaning.specs.Line.{opening, step, talk}
 use Rattle.meaning.specs.Heard.{account}
 use Rattle.meaning.specs.Demand.{Demand-3}
-use Rattle.meaning.specs.LinePromises.{lineOf, Says, lineAfter, Seen, Line-keeps-its-promises}
+use Rattle.meaning.specs.LinePromises.{lineOf, Says, lineAfter, IdealSeen, Line-keeps-its-promises}
 use Rattle.meaning.proofs.LineRefusals.{refused-if-due}
 use Rattle.meaning.proofs.HeardSteps.{Sound}
 use Rattle.meaning.proofs.LineTalk.{step-tells, refused-changes-nothing, talk-goes-on, talk-calls, talk-splits, first-told}
@@ -17,17 +17,17 @@ use Rattle.meaning.proofs.LineHeard.{ask-told, finish-told, withdraw-to
 
 module _ (permitted : List Name → Bool) (known : Name → Bool) where
   -- what was seen is sound, and shows who waits
-  seen-heard : {xs : List Exchange} {es : List Entry} → Seen permitted known xs es → Sound permitted (account xs) × (es ≡ account xs .waiters)
+  seen-heard : {xs : List Exchange} {es : List Entry} → IdealSeen permitted known xs es → Sound permitted (account xs) × (es ≡ account xs .waiters)
   seen-heard h = let (s, q) = calls-heard permitted known (h .calls) in rw (← h .replies, ← h .entries) (s, ap (λ l. l .waiting) q)
 
   -- what comes first was seen before
-  earlier : (xs ys : List Exchange) (es : List Entry) → Seen permitted known (xs ++ ys) es → (before : List Entry) × Seen permitted known xs before
+  earlier : (xs ys : List Exchange) (es : List Entry) → IdealSeen permitted known (xs ++ ys) es → (before : List Entry) × IdealSeen permitted known xs before
   earlier xs ys es h =
       let (bs, ds, p, q) = talk-splits permitted known opening (h .calls) xs ys (h .replies) in
       (lineAfter permitted known bs .waiting, record { calls = bs; replies = p; entries = refl })
 
   -- the last call was told what the line that was heard before it tells
-  last-told : (xs : List Exchange) (x : Exchange) {es : List Entry} → Seen permitted known (xs ++ x ∷ []) es
+  last-told : (xs : List Exchange) (x : Exchange) {es : List Entry} → IdealSeen permitted known (xs ++ x ∷ []) es
       → Sound permitted (account xs) × (step permitted known (lineOf (account xs)) (callIn x) .0 ≡ x)
   last-told xs x h =
       let (bs, ds, p, q) = talk-splits permitted known opening (h .calls) xs (x ∷ []) (h .replies) in
@@ -35,10 +35,10 @@ module _ (permitted : List Name → Bool) (known : Name → Bool) where
       rw (← p) (s, rw (← l) (first-told permitted known (lineAfter permitted known bs) ds x [] q))
 
   -- what was seen shows the calls
-  seen-calls : {xs : List Exchange} {es : List Entry} (h : Seen permitted known xs es) → h .calls ≡ map callIn xs
+  seen-calls : {xs : List Exchange} {es : List Entry} (h : IdealSeen permitted known xs es) → h .calls ≡ map callIn xs
   seen-calls h = sym (talk-calls permitted known opening (h .calls)) ∙ ap (map callIn) (h .replies)
 
-  keeps-demand-3 : permitted [] ≡ true → Demand-3 (Seen permitted known) (Says permitted) (Says known)
+  keeps-demand-3 : permitted [] ≡ true → Demand-3 (IdealSeen permitted known) (Says permitted) (Says known)
   keeps-demand-3 empty =
       record {
         all-answered = λ cs. (

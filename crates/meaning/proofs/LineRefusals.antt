@@ -35,7 +35,7 @@ runs-reads t [] o = (λ e. absurd (false≢true e), λ m. absurd (List·Memᴰ·
 runs-reads t (u ∷ []) o = (λ e. List·Memᴰ·head (sym (eqb-true u t e)), λ m. eq-eqb u t (sym (List·Memᴰ·eq-of-singleton m)))
 runs-reads t (u ∷ v ∷ us) o = absurd (omega arith)
 
--- what a call that is not refused has passed
+-- of what a call that is not refused has passed, what is needed below
 abbrev Passes : Account → Call → Type 0
 Passes a (ask t n) = ¬ Waits a t
 Passes a (finish t) = Runs a t

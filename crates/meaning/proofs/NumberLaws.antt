@@ -36,7 +36,7 @@ number-held (d ∷ ds) k h = go (same (key d) k) refl h (number-held ds k)
     go true e held rest = same-equal (key d) k e
     go false e held rest = rest held
 
--- so a held key stands somewhere, and different keys have different numbers
+-- so a held key stands somewhere
 pub held-at : (ds : List Name) (k : Name) → holds ds k ≡ true → (i : ℕ) × (i < length ds) × (key (getD ds i []) ≡ k)
 held-at ds k h = (numberOf ds k, held-below ds k h, number-held ds k h)
 
@@ -47,6 +47,7 @@ held-reads ns k = (
   λ m. let (n, here, e) = Memᴰ·of-map key ns m in rw (sym e) (member-held ns n here),
 )
 
+-- different keys have different numbers
 pub number-decides : (ds : List Name) (j k : Name) → holds ds j ≡ true → holds ds k ≡ true → numberOf ds j ≡ numberOf ds k → j ≡ k
 number-decides ds j k hj hk e = sym (number-held ds j hj) ∙ ap (λ (i : ℕ). key (getD ds i [])) e ∙ number-held ds k hk
 

@@ -80,7 +80,7 @@ sum-before h k = left _ (turned (rule (factor-right _ _ _))) ▸ sum h k
 sum-behind : {x y z w : Expr} → Part (seq z x) w → Part (seq z y) w → Part (seq z (choice x y)) w
 sum-behind h k = left _ (turned (rule (factor-left _ _ _))) ▸ sum h k
 
--- which sequence of names is part of which sum
+-- which sequence is part of which sum
 ruleset parts = (itself, of-left, of-right, both)
 
 module _ (a b c p q r : Expr) where

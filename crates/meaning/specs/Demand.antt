@@ -75,7 +75,7 @@ pub record Orderly (Permitted : List Name → Type 0) (a : Account) : Type 0 whe
   pub nobody-permitted-waits : a .unfinished ≡ [] → (e : Entry) → List·Memᴰ e (a .waiters)
       → ¬ Permitted (grantedNames a ++ e .name ∷ [])
 
--- `Seen xs es` says that calls from an opening can get the replies xs, and leave the entries es waiting; `Permitted` are the line's
+-- `Seen xs es` says that the exchanges xs can be had from an opening on, and leave the entries es waiting; `Permitted` are the line's
 -- permitted histories, `Known` its operations
 pub record Demand-3 (Seen : List Exchange → List Entry → Type 0) (Permitted : List Name → Type 0) (Known : Name → Type 0) : Type 0 where
   -- any calls can be made, and all get replies; equal calls get equal replies, and leave equal entries

@@ -1,4 +1,4 @@
--- What a reader must believe, in the order of document 01; specs/Promises.antt says what is proved of it.
+-- What a reader must believe, in the order of document 01; Promises.antt and LinePromises.antt say what is proved of it.
 pub mod Names
 pub mod Words
 pub mod Sets

@@ -1,13 +1,12 @@
--- What is promised of the ideal line, read off calls and replies alone. Each promise is a type here; proofs/ has a proof of each,
--- under the same name in small letters.
+-- What is promised of the ideal line, and of whatever keeps demand 3. Each promise is a type here; proofs/ has a proof of each, under the
+-- same name in small letters.
 use mathlib.Core.Path.{_≡_}
 use mathlib.Core.Bool.{Bool, true}
-use mathlib.Core.List.{List, [], _∷_, _++_, map, List·Memᴰ}
+use mathlib.Core.List.{List, [], _∷_, _++_}
 use mathlib.Core.Logic.{_↔_}
 use mathlib.Core.Option.{Option, some, none}
 use Prim.Native.Nat.{ℕ}
 use Rattle.meaning.specs.Names.{Name, key}
-use Rattle.meaning.specs.Words.{Expr, Begins, names}
 use Rattle.meaning.specs.Waiting.{Entry}
 use Rattle.meaning.specs.Calls.{Call, Exchange, refusalIn}
 use Rattle.meaning.specs.Line.{Line, opening, step, talk, after}
@@ -35,12 +34,12 @@ module _ (permitted : List Name → Bool) (known : Name → Bool) where
   lineAfter cs = after permitted known opening cs
 
   -- what can be seen of it: calls from an opening get these replies, and leave these entries waiting
-  pub record Seen (xs : List Exchange) (es : List Entry) : Type 0 where
+  pub record IdealSeen (xs : List Exchange) (es : List Entry) : Type 0 where
     pub calls : List Call
     pub replies : talk permitted known opening calls ≡ xs
     pub entries : lineAfter calls .waiting ≡ es
 
-  -- what the promises below say of one line
+  -- what is promised of one line
   pub record Keeps-its-promises : Type 0 where
     -- "a refusal leaves record and list with every cell as before"
     pub refused-changes-nothing : (l : Line) (c : Call) (m : ℕ) → refusalIn (step permitted known l c .0) ≡ some m
@@ -51,7 +50,7 @@ module _ (permitted : List Name → Bool) (known : Name → Bool) where
     -- calls and replies show all there is: the line after them holds nothing else, and its list is the waiters
     pub line-is-heard : (cs : List Call) → lineAfter cs ≡ lineOf (heardOf cs)
     -- "the empty history is always permitted"; then the line keeps demand 3
-    pub demanded : permitted [] ≡ true → Demand-3 Seen (Says permitted) (Says known)
+    pub demanded : permitted [] ≡ true → Demand-3 IdealSeen (Says permitted) (Says known)
 
 abbrev pub Line-keeps-its-promises : Type 0
 Line-keeps-its-promises = (permitted : List Name → Bool) (known : Name → Bool) → Keeps-its-promises permitted known
@@ -63,11 +62,6 @@ Same-histories-same-lines =
     → ((h : List Name) → permitted h ≡ permitted′ h) → ((n : Name) → known n ≡ known′ n)
     → (l : Line) (cs : List Call)
     → (talk permitted known l cs ≡ talk permitted′ known′ l cs) × (after permitted known l cs ≡ after permitted′ known′ l cs)
-
--- a line of the path e: its tests say what begins e, and which names are e's
-pub record Reads (e : Expr) (permitted : List Name → Bool) (known : Name → Bool) : Type 0 where
-  pub permits-what-begins : (h : List Name) → (permitted h ≡ true) ↔ Begins e h
-  pub knows-its-names : (k : Name) → (known k ≡ true) ↔ List·Memᴰ k (map key (names e))
 
 -- what demand 3 says does not depend on how it is said what can be seen, what is permitted and what is known
 abbrev pub Demand-3-carries : Type 1

@@ -105,6 +105,6 @@ longer a b c p q r =
 abbrev pub shorter : Expr → Expr → Expr → Expr → Expr → Expr → Expr
 shorter a b c p q r = seq (choice (choice a b) c) (choice (choice p q) r)
 
--- "This scheme was used to reduce the longer path expression into the shorter one"
+-- "This scheme was used to reduce the longer path expression into the shorter one"; here rules may be used in either direction
 abbrev pub Longer-rewritten : Type 0
 Longer-rewritten = (a b c p q r : Expr) → Rewritten (longer a b c p q r) (shorter a b c p q r)

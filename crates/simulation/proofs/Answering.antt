@@ -72,14 +72,15 @@ module _ (s : Session) (l : List Entry) (i : Line) (a : Alike (s .table) s l i) 
   waits-alike : (u : ℕ) → (waits (entryOf u (i .waiting)) ≡ true) ↔ Waits s l u
   waits-alike u = rw (entry-alike u, waits-same) (entry-waits s l u (a .long-list) (a .is-sound .record-sound))
 
-  -- what the tests of a call came to: the row that applies first; or none does, and what the step needs holds
-  abbrev pub Passed : Call → Type 0
-  Passed (ask u n) = knownIn t (key n) ≡ true
-  Passed (finish u) = runs (i .running) u ≡ true
-  Passed (withdraw u) = Unit
+  -- what the step of a call needs
+  abbrev Needs : Call → Type 0
+  Needs (ask u n) = knownIn t (key n) ≡ true
+  Needs (finish u) = runs (i .running) u ≡ true
+  Needs (withdraw u) = Unit
 
+  -- what the tests of a call came to: the row that applies first; or none does, and what the step needs holds
   abbrev pub Verdict : Call → Option ℕ → Type 0
-  Verdict c none = None (Row s l c) × Passed c
+  Verdict c none = None (Row s l c) × Needs c
   Verdict c (some m) = First (Row s l c) m
 
   past-all : {c : Call} {k : ℕ} → terminalOf c ≤ 63 → Row s l c k → 11 ≤ k

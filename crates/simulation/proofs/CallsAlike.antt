@@ -44,7 +44,7 @@ use Rattle.steps.specs.Calling.Serves.{does}
 use Rattle.steps.specs.Refusals.{Row, None}
 use Rattle.simulation.specs.Runs.{ReplyTo, Leaves}
 use Rattle.simulation.specs.Hearing.{entryHeard}
-use Rattle.simulation.specs.Likeness.{knownIn, runnerIn, setOf, SetStands, Alike}
+use Rattle.simulation.specs.Likeness.{knownIn, runnerIn, setAt, SetStands, Alike}
 use Rattle.simulation.proofs.Histories.{set-moves-on, permitted-next}
 use Rattle.simulation.proofs.EntriesHeard.{foundHeard, seek-heard, place-heard, put-heard, taken-heard}
 use Rattle.simulation.proofs.Leaving.{leaves-sound, leaves-rest}
@@ -61,13 +61,13 @@ module _ (s : Session) (l : List Entry) (i : Line) (a : Alike (s .table) s l i) 
   as-many-heard = rw (← (a .same-entries), length-map) as-many
 
   -- the name of an operation is permitted after the grants exactly if the operation meets the set after them
-  meets-alike : (x : ℕ) → x ≡ setOf t (i .history) → (k : Name) (o : ℕ) → permissionOf t k ≡ permissionSet t o
+  meets-alike : (x : ℕ) → x ≡ setAt t (i .history) → (k : Name) (o : ℕ) → permissionOf t k ≡ permissionSet t o
       → tablePermits t (i .history ++ k ∷ []) ≡ meeting x (permissionSet t o)
   meets-alike x after k o same =
       permitted-next t (i .history) k (a .grants-permitted) ∙ ap₂ meeting (sym after) same
 
   -- the set that is shared with a grant
-  shared-alike : (u x : ℕ) → x ≡ setOf t (i .history) → (k : Name) (o : ℕ) → permissionOf t k ≡ permissionSet t o
+  shared-alike : (u x : ℕ) → x ≡ setAt t (i .history) → (k : Name) (o : ℕ) → permissionOf t k ≡ permissionSet t o
       → SetStands t (some u) (i .history ++ k ∷ []) (bitAnd x (permissionSet t o))
   shared-alike u x after k o same = (i .history, k, refl, ap₂ bitAnd after (sym same))
 
@@ -115,7 +115,7 @@ module _ (s : Session) (l : List Entry) (i : Line) (a : Alike (s .table) s l i) 
     ideal-test b test = test-same (s .state) (i .running) (a .same-runner) (a .its-set) ∙ test
 
     -- of a free line the set is the set after all grants
-    free-set : (r : Option ℕ) → free r ≡ true → SetStands t r (i .history) (s .set) → s .set ≡ setOf t (i .history)
+    free-set : (r : Option ℕ) → free r ≡ true → SetStands t r (i .history) (s .set) → s .set ≡ setAt t (i .history)
     free-set none is its = its
     free-set (some v) is its = absurd (false≢true is)
 
@@ -177,10 +177,10 @@ module _ (s : Session) (l : List Entry) (i : Line) (a : Alike (s .table) s l i) 
   module _ (u v : ℕ) (none-applies : None (Row s l (finish u))) (runs-now : i .running ≡ some v)
       (goes-on : refusal (tablePermits t) (knownIn t) i (finish u) ≡ none) where
     -- the set moves along the rows: it is then the set after all grants
-    moved : unionOf (t .rows) (s .set) ≡ setOf t (i .history)
+    moved : unionOf (t .rows) (s .set) ≡ setAt t (i .history)
     moved =
         let (g, k, is, shared) = subst (λ (r : Option ℕ). SetStands t r (i .history) (s .set)) runs-now (a .its-set) in
-        ap (unionOf (t .rows)) shared ∙ sym (set-moves-on t g k) ∙ ap (setOf t) (sym is)
+        ap (unionOf (t .rows)) shared ∙ sym (set-moves-on t g k) ∙ ap (setAt t) (sym is)
 
     -- both lines pick the same entry
     picks-same : picked (tablePermits t) (knownIn t) i ≡ foundHeard (entryHeard t) (builtPick (freed s) l)

@@ -1,4 +1,4 @@
--- Proofs of what specs/Promises.antt promises, lowest first.
+-- Proofs of what specs/Promises.antt and specs/Texts.antt promise, lowest first.
 pub mod Histories
 pub mod EntriesHeard
 pub mod Leaving

@@ -126,7 +126,7 @@ module _ (t : Table) where
 pub run-simulates : Run-simulates
 run-simulates t ms s l run =
     let first = run .opened in
-    let blank = run .blank in
+    let blank = run .blanked in
     let alike = opening-alike t (run .lent) first (run .list) blank (run .opens) in
     let behind = opened-blank (run .lent) first (run .list) blank t Opened (run .opens) refl in
     let rest = open-leaves-the-rest (run .lent) first (run .list) blank t Opened (run .opens) in

@@ -73,7 +73,7 @@ calls-can-be-made t sound s l long cs =
       made = all .made;
       session = all .session;
       list = all .list;
-      run = record { lent = s; list = l; opened = first; blank = blanked 64 l; opens = opens; runs = all .run };
+      run = record { lent = s; list = l; opened = first; blanked = blanked 64 l; opens = opens; runs = all .run };
       on-that-record = refl;
       on-that-list = refl;
       those-calls = all .those-calls;
@@ -95,8 +95,8 @@ runs-one s s₁ s₂ l l₁ l₂ (m ∷ ms) (d ∷ ds) (s₃, l₃, by, run₁) 
 
 pub runs-determined : Runs-determined
 runs-determined t ms₁ ms₂ s₁ s₂ l₁ l₂ run₁ run₂ lists calls =
-    let (is, il) = opened-so t (run₁ .lent) (run₁ .opened) (run₁ .list) (run₁ .blank) (run₁ .opens) in
-    let (js, jl) = opened-so t (run₂ .lent) (run₂ .opened) (run₂ .list) (run₂ .blank) (run₂ .opens) in
+    let (is, il) = opened-so t (run₁ .lent) (run₁ .opened) (run₁ .list) (run₁ .blanked) (run₁ .opens) in
+    let (js, jl) = opened-so t (run₂ .lent) (run₂ .opened) (run₂ .list) (run₂ .blanked) (run₂ .opens) in
     let same-record : run₁ .opened ≡ run₂ .opened = is ∙ sym js in
-    let same-list : run₁ .blank ≡ run₂ .blank = il ∙ rw lists (sym jl) in
-    runs-one (run₂ .opened) s₁ s₂ (run₂ .blank) l₁ l₂ ms₁ ms₂ (rw (same-record, same-list) at (run₁ .runs)) (run₂ .runs) calls
+    let same-list : run₁ .blanked ≡ run₂ .blanked = il ∙ rw lists (sym jl) in
+    runs-one (run₂ .opened) s₁ s₂ (run₂ .blanked) l₁ l₂ ms₁ ms₂ (rw (same-record, same-list) at (run₁ .runs)) (run₂ .runs) calls

@@ -5,7 +5,7 @@ use mathlib.Core.Logic.{Iff·rfl, Iff·symm}
 use native.Mathlib.Omega.{arith}
 use lib.ListN.{replicate, length-replicate}
 use Rattle.meaning.specs.Following.{permits}
-use Rattle.meaning.specs.LinePromises.{Seen as IdealSeen}
+use Rattle.meaning.specs.LinePromises.{IdealSeen}
 use Rattle.meaning.proofs.LineKeeps.{line-keeps-its-promises}
 use Rattle.meaning.proofs.DemandCarries.{demand-3-carries}
 use Rattle.table.specs.Following.{tablePermits}

@@ -2,6 +2,7 @@
 -- in these terms. Demand 3 leaves one line, so lines over texts with the same histories cannot be told apart; and each permitted history can
 -- be granted, so lines that cannot be told apart have the same.
 use mathlib.Core.Path.{_≡_, refl, ap, subst, _∙_}
+use mathlib.Core.Bool.{true}
 use mathlib.Core.List.{List, [], _∷_, _++_, map, List·Memᴰ, List·Memᴰ·head, Memᴰ·append-right, Memᴰ·of-map}
 use mathlib.Core.Logic.{_↔_, Iff·rfl, Iff·symm}
 use Prim.Native.Nat.{ℕ}
@@ -10,7 +11,6 @@ use Rattle.meaning.specs.Words.{Expr, Begins, names}
 use Rattle.meaning.specs.Operations.{distinct}
 use Rattle.meaning.specs.Waiting.{Entry as Named}
 use Rattle.meaning.specs.Calls.{Exchange}
-use Rattle.meaning.specs.LinePromises.{Reads}
 use Rattle.meaning.proofs.OperationLaws.{holds-distinct}
 use Rattle.meaning.proofs.NumberLaws.{held-reads}
 use Rattle.meaning.proofs.Beginnings.{beginning-begins}
@@ -21,7 +21,6 @@ use Rattle.meaning.proofs.DemandDetermined.{demand-3-determined}
 use Rattle.meaning.proofs.Granting.{permitted-can-be-granted}
 use Rattle.grammar.specs.Refusals.{Accepted}
 use Rattle.table.specs.Cells.{namesOf}
-use Rattle.table.specs.Following.{tablePermits}
 use Rattle.table.specs.declared.cells.Table.{Table}
 use Rattle.table.proofs.TableCells.{names-of-table}
 use Rattle.compiler.specs.declared.replies.Compiled.{Compiled}
@@ -45,12 +44,9 @@ module _ (text : List ℕ) (e : Expr) (is-accepted : Accepted text e) where
   names-are : namesOf t ≡ distinct (names e)
   names-are = ap namesOf (of-text .by-the-rules) ∙ names-of-table e (text-limited text e is-accepted)
 
-  reads : Reads e (tablePermits t) (knownIn t)
-  reads =
-      record {
-        permits-what-begins = of-text .permits-exactly;
-        knows-its-names = λ k. rw (names-are, holds-distinct) (held-reads (names e) k);
-      }
+  -- the operations of its table are the names of the text
+  knows-its-names : (k : Name) → (knownIn t k ≡ true) ↔ List·Memᴰ k (map key (names e))
+  knows-its-names k = rw (names-are, holds-distinct) (held-reads (names e) k)
 
   -- there is one such table
   seen-of-table : (xs : List Exchange) (es : List Named) → Seen t xs es ↔ TextSeen text xs es
@@ -61,9 +57,8 @@ module _ (text : List ℕ) (e : Expr) (is-accepted : Accepted text e) where
 
 pub texts-keep-demand-3 : Texts-keep-demand-3
 texts-keep-demand-3 text e is-accepted =
-    let r = reads text e is-accepted in
     demand-3-carries _ (TextSeen text) _ (Begins e) _ (λ (k : Name). List·Memᴰ k (map key (names e)))
-    (seen-of-table text e is-accepted) (r .permits-what-begins) (r .knows-its-names)
+    (seen-of-table text e is-accepted) (of-text text e is-accepted .permits-exactly) (knows-its-names text e is-accepted)
     (tables-keep-demand-3 (t text e is-accepted) (of-text text e is-accepted .is-sound))
 
 -- lines over texts with the same histories keep the same demand, and that leaves one line

@@ -1,5 +1,5 @@
--- Calls of the built line one after the other, what is heard of them, and the ideal line beside it; specs/Promises.antt says what is
--- proved of it.
+-- Calls of the built line one after the other, what is heard of them, and the ideal line beside it; Promises.antt and Texts.antt say what
+-- is proved of it.
 pub mod Runs
 pub mod Hearing
 pub mod Likeness

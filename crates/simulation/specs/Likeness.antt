@@ -31,13 +31,13 @@ runnerIn Free = none
 runnerIn (Running u) = some (u .0)
 
 -- the set of table t after the history h, all of it finished
-abbrev pub setOf : Table → List Name → ℕ
-setOf t h = setAfter (t .rows) (permissionOf t) (t .start) h
+abbrev pub setAt : Table → List Name → ℕ
+setAt t h = setAfter (t .rows) (permissionOf t) (t .start) h
 
 -- s is the set after the grants h: of a free line all are finished; of one that runs the last is not, and the set is what it shared
 abbrev pub SetStands : Table → Option ℕ → List Name → ℕ → Type 0
-SetStands t none h s = s ≡ setOf t h
-SetStands t (some u) h s = (g : List Name) × (k : Name) × (h ≡ g ++ k ∷ []) × (s ≡ bitAnd (setOf t g) (permissionOf t k))
+SetStands t none h s = s ≡ setAt t h
+SetStands t (some u) h s = (g : List Name) × (k : Name) × (h ≡ g ++ k ∷ []) × (s ≡ bitAnd (setAt t g) (permissionOf t k))
 
 -- the simulation relation: record s and list l of table t, and the ideal line i
 pub record Alike (t : Table) (s : Session) (l : List Entry) (i : Line) : Type 0 where

@@ -11,7 +11,7 @@ use Rattle.meaning.specs.Calls.{Call, Exchange, refusalIn}
 use Rattle.meaning.specs.Line.{opening, talk, after}
 use Rattle.meaning.specs.Heard.{grantedNames, account}
 use Rattle.meaning.specs.Demand.{Demand-3}
-use Rattle.meaning.specs.LinePromises.{Says, Seen as IdealSeen}
+use Rattle.meaning.specs.LinePromises.{Says, IdealSeen}
 use Rattle.table.specs.Following.{tablePermits}
 use Rattle.table.specs.Soundness.{Sound as TableSound}
 use Rattle.table.specs.declared.cells.Table.{Table}

@@ -41,7 +41,8 @@ Run s l (m ∷ ms) s′ l′ = (s₁ : Session) × (l₁ : List Entry) × Leaves
 pub record FromOpening (t : Table) (ms : List Made) (s′ : Session) (l′ : List Entry) : Type 0 where
   pub lent : Session
   pub list : List Entry
+  -- the record and list that the opening left
   pub opened : Session
-  pub blank : List Entry
-  pub opens : Opens lent list t Opened opened blank
-  pub runs : Run opened blank ms s′ l′
+  pub blanked : List Entry
+  pub opens : Opens lent list t Opened opened blanked
+  pub runs : Run opened blanked ms s′ l′

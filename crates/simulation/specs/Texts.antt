@@ -54,8 +54,8 @@ Told-alike-same-histories =
     (text text′ : List ℕ) (x y : Expr) → Accepted text x → Accepted text′ y → Told-alike text text′
     → (h : List Name) → Begins x h ↔ Begins y h
 
--- so neither can the report's four rewritings: any number of them, in either direction, for any parts and at any place inside a path,
--- sequences and choices regrouped freely
+-- so a text and its rewriting cannot be told apart: any number of the report's four rewritings, in either direction, for any parts and at
+-- any place inside a path, sequences and choices regrouped freely
 abbrev pub Rewritten-told-alike : Type 0
 Rewritten-told-alike =
     (text text′ : List ℕ) (x y : Expr) → Accepted text x → Accepted text′ y → Rewritten x y → Told-alike text text′

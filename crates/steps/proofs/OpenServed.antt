@@ -46,7 +46,7 @@ module _ (s : Session) (l : List Entry) (t : Table) where
       refl)
   long-served long true says = rw (le-ltb (length l) 64 long) (does (λ m row. open-rows-left t l row .2 long (says .0 refl)) refl)
 
-  pub open-served : (b : Bool) → (b ≡ true) ↔ TableSound t → Good (openValue b s (length l) t)
+  open-served : (b : Bool) → (b ≡ true) ↔ TableSound t → Good (openValue b s (length l) t)
   unfolding openValue blanked
   open-served b says =
       ⊎-elim
