@@ -5,6 +5,7 @@ use crate::numbers::Terminal;
 use table::numbers::Operation;
 
 // A terminal, and the operation that it waits for.
+#[repr(C)]
 pub struct Entry {
     pub terminal: Terminal,
     pub operation: Operation,

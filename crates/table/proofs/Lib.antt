@@ -13,6 +13,7 @@ pub mod Whole
 pub mod Passing
 pub mod InUse
 pub mod SoundSets
+pub mod Placed
 pub mod SoundOperations
 pub mod Distinct
 pub mod FreshNames

@@ -24,7 +24,7 @@ module _ (operations : List Operation) (n p : ℕ) where
   behind = drop (p + 1) (take n operations)
 
   module _ (all : length operations ≡ 64) (few : n ≤ 64) (used : p < n) where
-    here-and-behind : from-here ≡ here ∷ behind
+    pub here-and-behind : from-here ≡ here ∷ behind
     here-and-behind =
         let there : p < length (take n operations) = omega (arith, length-take-le n operations (omega arith)) in
         rw (add-one p, drop-cons (take n operations) p (record { 0 = 0 }) there, getD-take n operations p (record { 0 = 0 }) used)
@@ -47,7 +47,7 @@ module _ (operations : List Operation) (n p : ℕ) where
     twice-behind e = rw (here-and-behind, e)
 
   module _ (past : n ≤ p) where
-    nothing-from-here : from-here ≡ []
+    pub nothing-from-here : from-here ≡ []
     nothing-from-here = drop-of-length-le (take n operations) {i = p} (omega (arith, length-take n operations))
 
     pub stands-nowhere : (o : ℕ) → among from-here o ≡ false

@@ -9,13 +9,11 @@ use borrow.Author.Tests.{eqb-true, eq-eqb, ltb-true, lt-ltb}
 use lib.Dec.{eqb, ltb}
 use lib.ListN.{length, take, getD}
 use lib.Seq.{length-take-le, getD-take}
-use Rattle.meaning.proofs.SetLaws.{member, member-not-none, not-empty-says}
+use Rattle.meaning.specs.Sets.{In}
 use Rattle.table.specs.declared.numbers.Operation.{Operation}
-use Rattle.table.specs.Following.{positionsWith}
-use Rattle.table.specs.Tests.{operationsTest, placedTest, eachPlacedTest}
+use Rattle.table.specs.Tests.{operationsTest, placedIn, eachPlacedTest}
 use Rattle.table.proofs.InUse.{cells-say}
-use Rattle.table.proofs.Passing.{each-says, each-said}
-use Rattle.table.proofs.PositionSets.{in-positions-with}
+use Rattle.table.proofs.Placed.{in-placed, placed-in, first-all-in}
 
 module _ (os : List Operation) (n names : ℕ) (all : length os ≡ 64) (few : n ≤ 64) where
   abbrev at : ℕ → ℕ
@@ -39,20 +37,19 @@ module _ (os : List Operation) (n names : ℕ) (all : length os ≡ 64) (few : n
   at-in-use : (p : ℕ) → p < n → getD (take n os) p (record { 0 = 0 }) .0 ≡ at p
   at-in-use p h = ap (λ (x : Operation). x .0) (getD-take n os p (record { 0 = 0 }) h)
 
-  placed-says : (o : ℕ) → (placedTest os n o ≡ true) ↔ Placed o
-  placed-says o =
-      let set = positionsWith (take n os) o in
-      let stands = in-positions-with (take n os) (record { 0 = 0 }) o in (
-        λ t.
-            let (p, i) = member set (not-empty-says set .0 t) in
-            let (there, e) = stands p .0 i in
-            let h : p < n = omega (arith, counted) in
-            (p, h, sym (at-in-use p h) ∙ e),
-        λ (p, h, e). not-empty-says set .1 (member-not-none p set (stands p .1 (omega (arith, counted), at-in-use p h ∙ e))),
-      )
+  placed-says : (o : ℕ) → In o (placedIn (take n os)) ↔ Placed o
+  placed-says o = (
+    λ i.
+        let (p, there, e) = in-placed (take n os) (record { 0 = 0 }) o i in
+        let h : p < n = omega (arith, counted) in
+        (p, h, sym (at-in-use p h) ∙ e),
+    λ (p, h, e). placed-in (take n os) (record { 0 = 0 }) o p (omega (arith, counted)) (at-in-use p h ∙ e),
+  )
 
   pub each-placed-says : (eachPlacedTest os n names ≡ true) ↔ ((o : ℕ) → o < names → Placed o)
-  each-placed-says = (
-    λ t o h. placed-says o .0 (each-says (placedTest os n) 0 names o t (omega arith) h),
-    λ says. each-said (placedTest os n) 0 names (λ o l h. placed-says o .1 (says o h)),
-  )
+  unfolding eachPlacedTest
+  each-placed-says =
+      let has = first-all-in names (placedIn (take n os)) in (
+        λ t o h. placed-says o .0 (has .0 t o h),
+        λ says. has .1 (λ o h. placed-says o .1 (says o h)),
+      )

@@ -1,10 +1,12 @@
 -- The clauses of soundness as tests, one for each private function of the program. Nothing here needs to be believed: the contract
 -- of `is_sound` speaks of Soundness.antt alone.
+use mathlib.Core.Path.{_≡_}
 use mathlib.Core.Bool.{Bool, true, false, cond, not, _&&_}
-use mathlib.Core.List.{List}
-use Prim.Native.Nat.{ℕ, zero, suc, _+_, _-_, _*_, _^_}
+use mathlib.Core.List.{List, [], _∷_}
+use Prim.Native.Nat.{ℕ, zero, suc, _+_, _-_, _*_, _^_, _≤_, _<_}
+use lib.Bits.{bitOr, bitAnd}
 use lib.Dec.{eqb, ltb, leb}
-use lib.ListN.{take, drop, getD}
+use lib.ListN.{length, take, drop, getD}
 use Rattle.meaning.specs.Names.{Name, key}
 use Rattle.text.specs.Tokens.{wellFormed}
 use Rattle.table.specs.declared.numbers.Operation.{Operation}
@@ -12,7 +14,7 @@ use Rattle.table.specs.declared.names.Found.{Found}
 use Rattle.table.specs.declared.names.Found.the-variants.{At, Nowhere}
 use Rattle.table.specs.declared.cells.Table.{Table}
 use Rattle.table.specs.Cells.{spellings}
-use Rattle.table.specs.Following.{positionsWith, foundIn}
+use Rattle.table.specs.Following.{foundIn}
 use Rattle.table.specs.Marks.{markOf}
 
 -- the k numbers from p on pass a test
@@ -51,12 +53,22 @@ operationAtTest os n names p = operationTest (getD os p (record { 0 = 0 }) .0) p
 abbrev pub operationsTest : List Operation → ℕ → ℕ → Bool
 operationsTest os n names = each (operationAtTest os n names) 0 64
 
--- operation o has a position
-abbrev pub placedTest : List Operation → ℕ → ℕ → Bool
-placedTest os n o = not (eqb (positionsWith (take n os) o) 0)
+-- at most 64 positions, with operations that a set of 64 bits has room for
+abbrev pub BitsSuffice : List Operation → ℕ → Type 0
+BitsSuffice os n = (n ≤ 64) × ((p : ℕ) → p < n → getD os p (record { 0 = 0 }) .0 < 64)
 
-abbrev pub eachPlacedTest : List Operation → ℕ → ℕ → Bool
-eachPlacedTest os n names = each (placedTest os n) 0 names
+-- the operations of a list, as a set: operation o is bit o
+unfoldable pub placedIn : List Operation → ℕ
+placedIn [] = 0
+placedIn (x ∷ xs) = bitOr (2 ^ x .0) (placedIn xs)
+
+-- every operation below the name count has a position among the first n
+unfoldable pub eachPlacedTest : List Operation → ℕ → ℕ → Bool
+eachPlacedTest os n names = eqb (bitAnd (placedIn (take n os)) (2 ^ names - 1)) (2 ^ names - 1)
+
+-- the cells that names are kept in: 32 lengths and 512 bytes
+abbrev pub NameCells : List ℕ → List ℕ → Type 0
+NameCells lengths bytes = (length lengths ≡ 32) × (length bytes ≡ 512)
 
 -- byte k is zero
 abbrev pub zeroTest : List ℕ → ℕ → Bool

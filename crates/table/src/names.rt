@@ -5,6 +5,7 @@ ghost use lib.ListN.{take};
 ghost use Rattle.meaning.specs.Names.{key};
 ghost use Rattle.table.specs.Cells.{spellings};
 ghost use Rattle.table.specs.Following.{foundIn};
+ghost use Rattle.table.specs.Tests.{NameCells};
 use crate::numbers::Operation;
 use text::tokens::same_name;
 
@@ -26,9 +27,10 @@ fn end_of(from: usize, n: u8) -> usize
     512
 }
 
-// The operation of a name, among the first `names` there are. A length that runs past the last byte ends there.
-pub fn find(names: usize, lengths: [u8; 32], bytes: [u8; 512], name: &[u8]) -> Found
-    ensures { λ r. ⌜ r ≡ foundIn (take names (spellings lengths bytes)) (key (now (name .entry))) ⌝ }
+// As `find`, over cells that are lent, so that none is copied.
+pub(crate) fn find_among(names: usize, lengths: &[u8], bytes: &[u8], name: &[u8]) -> Found
+    requires { ⌜ NameCells (now lengths) (now bytes) ⌝ }
+    ensures { λ r. ⌜ r ≡ foundIn (take names (spellings (now (lengths .entry)) (now (bytes .entry)))) (key (now (name .entry))) ⌝ }
 {
     let mut i: usize = 0;
     while i < 32 {
@@ -43,4 +45,11 @@ pub fn find(names: usize, lengths: [u8; 32], bytes: [u8; 512], name: &[u8]) -> F
         i += 1;
     }
     Found::Nowhere
+}
+
+// The operation of a name, among the first `names` there are. A length that runs past the last byte ends there.
+pub fn find(names: usize, lengths: [u8; 32], bytes: [u8; 512], name: &[u8]) -> Found
+    ensures { λ r. ⌜ r ≡ foundIn (take names (spellings lengths bytes)) (key (now (name .entry))) ⌝ }
+{
+    find_among(names, &lengths, &bytes, name)
 }

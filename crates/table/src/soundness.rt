@@ -3,16 +3,15 @@ ghost use mathlib.Core.Path.{_≡_};
 ghost use mathlib.Core.Bool.{true};
 ghost use mathlib.Core.Logic.{_↔_};
 ghost use Prim.Native.Nat.{_*_, _≤_, _<_};
-ghost use lib.ListN.{take, drop};
+ghost use lib.ListN.{length, take, drop};
 ghost use Rattle.table.specs.Cells.{spellings};
 ghost use Rattle.table.specs.Soundness.{Sound};
-ghost use Rattle.table.specs.Tests.{countsTest, fitTest, rowTest, rowsTest, operationTest, operationsTest, eachPlacedTest, zerosTest, isNew, freshTest, usedTest, nameTest, namesTest};
+ghost use Rattle.table.specs.Tests.{countsTest, fitTest, rowTest, rowsTest, operationTest, operationsTest, BitsSuffice, placedIn, eachPlacedTest, NameCells, zerosTest, isNew, freshTest, usedTest, nameTest, namesTest};
 use crate::cells::Table;
 use crate::marks::mark_of;
 use crate::names::Found;
-use crate::names::find;
+use crate::names::find_among;
 use crate::numbers::Operation;
-use crate::sets::permission;
 use text::tokens::well_formed;
 
 // The counts are 1 to 64 and 1 to 32.
@@ -92,24 +91,32 @@ fn operations_fit(operations: [Operation; 64], n: usize, names: usize) -> bool
     true
 }
 
-// Each operation below the name count has a position among the first n.
+// The operations of the first n positions, as a set: operation o is bit o.
+fn placed(operations: [Operation; 64], n: usize) -> u64
+    requires { ⌜ BitsSuffice operations n ⌝ }
+    ensures { λ r. ⌜ r ≡ placedIn (take n operations) ⌝ }
+{
+    let mut out: u64 = 0;
+    let mut p: usize = 0;
+    while p < n {
+        out = out | (1u64 << operations[p].0);
+        p += 1;
+    }
+    out
+}
+
+// Each operation below the name count has a position among the first n: one pass gathers them, and one comparison tells.
 fn each_placed(operations: [Operation; 64], n: usize, names: usize) -> bool
-    requires { ⌜ names ≤ 32 ⌝ }
+    requires { ⌜ (n ≤ 64) × (names ≤ 32) × (operationsTest operations n names ≡ true) ⌝ }
     ensures { λ r. ⌜ r ≡ eachPlacedTest operations n names ⌝ }
 {
-    let mut o: usize = 0;
-    while o < names {
-        if permission(n, operations, Operation(o as u8)) == 0 {
-            return false;
-        }
-        o += 1;
-    }
-    true
+    let all = (1u64 << names) - 1;
+    (placed(operations, n) & all) == all
 }
 
 // The bytes from `from` up to `to` are zero.
-fn zeros(bytes: &[u8; 512], from: usize, to: usize) -> bool
-    requires { ⌜ to ≤ 512 ⌝ }
+fn zeros(bytes: &[u8], from: usize, to: usize) -> bool
+    requires { ⌜ to ≤ length (now bytes) ⌝ }
     ensures { λ r. ⌜ r ≡ zerosTest (now (bytes .entry)) from to ⌝ }
 {
     let mut k = from;
@@ -133,25 +140,23 @@ fn is_new(f: Found) -> bool
 }
 
 // Name i, of n bytes, is well formed, and not among those before it.
-fn is_fresh(i: usize, n: usize, lengths: [u8; 32], bytes: [u8; 512]) -> bool
-    requires { ⌜ (i < 32) × (n ≤ 16) ⌝ }
-    ensures { λ r. ⌜ r ≡ freshTest (take n (drop (16 * i) bytes)) (take i (spellings lengths bytes)) ⌝ }
+fn is_fresh(i: usize, n: usize, lengths: &[u8], bytes: &[u8]) -> bool
+    requires { ⌜ (i < 32) × (n ≤ 16) × NameCells (now lengths) (now bytes) ⌝ }
+    ensures { λ r. ⌜ r ≡ freshTest (take n (drop (16 * i) (now (bytes .entry)))) (take i (spellings (now (lengths .entry)) (now (bytes .entry)))) ⌝ }
 {
     let from = 16 * i;
     let to = from + n;
-    // A copy is lent, since the array itself is handed on.
-    let lent = bytes;
-    let name = &lent[from..to];
+    let name = &bytes[from..to];
     if !well_formed(name) {
         return false;
     }
-    is_new(find(i, lengths, bytes, name))
+    is_new(find_among(i, lengths, bytes, name))
 }
 
 // Name i, of n bytes, is fresh if it is in use, and else has no length.
-fn use_fits(i: usize, n: usize, names: usize, lengths: [u8; 32], bytes: [u8; 512]) -> bool
-    requires { ⌜ (i < 32) × (n ≤ 16) ⌝ }
-    ensures { λ r. ⌜ r ≡ usedTest i n names lengths bytes ⌝ }
+fn use_fits(i: usize, n: usize, names: usize, lengths: &[u8], bytes: &[u8]) -> bool
+    requires { ⌜ (i < 32) × (n ≤ 16) × NameCells (now lengths) (now bytes) ⌝ }
+    ensures { λ r. ⌜ r ≡ usedTest i n names (now (lengths .entry)) (now (bytes .entry)) ⌝ }
 {
     if i < names {
         return is_fresh(i, n, lengths, bytes);
@@ -160,9 +165,9 @@ fn use_fits(i: usize, n: usize, names: usize, lengths: [u8; 32], bytes: [u8; 512
 }
 
 // Name i, of n bytes, is short and as its use wants it, and the bytes kept for it behind it are zero.
-fn name_fits(i: usize, n: usize, names: usize, lengths: [u8; 32], bytes: [u8; 512]) -> bool
-    requires { ⌜ i < 32 ⌝ }
-    ensures { λ r. ⌜ r ≡ nameTest i n names lengths bytes ⌝ }
+fn name_fits(i: usize, n: usize, names: usize, lengths: &[u8], bytes: &[u8]) -> bool
+    requires { ⌜ (i < 32) × NameCells (now lengths) (now bytes) ⌝ }
+    ensures { λ r. ⌜ r ≡ nameTest i n names (now (lengths .entry)) (now (bytes .entry)) ⌝ }
 {
     if 16 < n {
         return false;
@@ -170,12 +175,13 @@ fn name_fits(i: usize, n: usize, names: usize, lengths: [u8; 32], bytes: [u8; 51
     if !use_fits(i, n, names, lengths, bytes) {
         return false;
     }
-    zeros(&bytes, 16 * i + n, 16 * i + 16)
+    zeros(bytes, 16 * i + n, 16 * i + 16)
 }
 
 // The names in use fit, and the cells of the others are zero.
-fn names_fit(names: usize, lengths: [u8; 32], bytes: [u8; 512]) -> bool
-    ensures { λ r. ⌜ r ≡ namesTest names lengths bytes ⌝ }
+fn names_fit(names: usize, lengths: &[u8], bytes: &[u8]) -> bool
+    requires { ⌜ NameCells (now lengths) (now bytes) ⌝ }
+    ensures { λ r. ⌜ r ≡ namesTest names (now (lengths .entry)) (now (bytes .entry)) ⌝ }
 {
     let mut i: usize = 0;
     while i < 32 {
@@ -212,7 +218,7 @@ pub fn is_sound(t: Table) -> bool
     }
     let lengths = t.lengths;
     let bytes = t.bytes;
-    if !names_fit(names, lengths, bytes) {
+    if !names_fit(names, &lengths, &bytes) {
         return false;
     }
     t.mark == mark_of(t)

@@ -31,7 +31,7 @@ Takes m Bad = Unit {0}
 Takes m Long = Unit {0}
 
 -- a choice by a test has what both its sides have, each where the test says so
-choice-has : {A : Type 0} (P : A → Type 0) (t : Bool) {x y : A} → (t ≡ true → P x) → (t ≡ false → P y) → P (cond t x y)
+pub choice-has : {A : Type 0} (P : A → Type 0) (t : Bool) {x y : A} → (t ≡ true → P x) → (t ≡ false → P y) → P (cond t x y)
 choice-has P true f g = f refl
 choice-has P false f g = g refl
 

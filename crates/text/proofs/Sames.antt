@@ -1,4 +1,5 @@
--- Comparing names byte by byte: a loop over both compares what is left of them; names of other lengths are never the same.
+-- Comparing names byte by byte: a loop over both compares what is left of them; names of other lengths, or with
+-- another byte at some place, are never the same.
 use mathlib.Core.Path.{_≡_, ap}
 use mathlib.Core.Bool.{true, false}
 use mathlib.Core.List.{List}
@@ -14,6 +15,9 @@ pub lengths-differ-is-false : (a b : List ℕ) → (length a ≡ length b → �
 lengths-differ-is-false a b h = different-not-same a b (λ e. h (ap length e))
 
 module _ (a b : List ℕ) (i : ℕ) where
+  pub byte-differs-is-false : (getD a i 0 ≡ getD b i 0 → ⊥) → same a b ≡ false
+  byte-differs-is-false h = different-not-same a b (λ e. h (ap (λ (l : List ℕ). getD l i 0) e))
+
   -- equal bytes at place i: what is left to compare stands behind them
   pub equal-bytes : i < length a → i < length b → getD a i 0 ≡ getD b i 0
       → same (drop i a) (drop i b) ≡ same (drop (i + 1) a) (drop (i + 1) b)

@@ -1,19 +1,20 @@
--- A name that `nextToken` finds is well formed: its bytes alone are one name. The idea: they start with a letter, so with no blank, and all
--- of them are bytes of a name, so the longest run of those is again all of them.
+-- When bytes are well formed, in the words of a direct test: they start with a letter, the run of bytes of a name there is all of them,
+-- and as a word it is a name. And a name that `nextToken` finds is well formed: its bytes alone are one name, since they start with a
+-- letter, so with no blank, and all of them are bytes of a name, so the longest run of those is again all of them.
 use mathlib.Core.Path.{_≡_, refl, sym, ap, _∙_}
-use mathlib.Core.Bool.{Bool, true, false, cond, false≢true}
+use mathlib.Core.Bool.{Bool, true, false, cond, and-true, and-false, false≢true}
 use mathlib.Core.List.{List, [], _∷_}
-use Prim.Native.Nat.{ℕ, suc, _+_}
+use Prim.Native.Nat.{ℕ, suc, _+_, _<_}
 use native.Mathlib.Omega.{arith}
-use borrow.Author.Tests.{eqb-true, eq-eqb}
+use borrow.Author.Tests.{eqb-true, eqb-false, eq-eqb, ne-eqb}
 use lib.Dec.{eqb}
-use lib.ListN.{length, take, drop}
+use lib.ListN.{length, take, drop, getD}
 use lib.Seq.{length-take-le, take-length}
 use Rattle.text.specs.Classes.{letter, classOf}
-use Rattle.text.specs.Tokens.{span, blankByte, nameByte, wordToken, signToken, tokenFrom, nextToken, isName, wellFormed}
+use Rattle.text.specs.Tokens.{span, blankByte, nameByte, wordToken, signToken, wordRead, tokenFrom, nextToken, isName, wellFormed}
 use Rattle.text.specs.declared.tokens.Token.the-variants.{Name}
 use Rattle.text.proofs.Spans.{span-counts, span-ends, span-within}
-use Rattle.text.proofs.Ways.{way-word}
+use Rattle.text.proofs.Ways.{way-word, way-sign}
 use Rattle.text.proofs.Reading.{sign-has, start-is-blanks, name-reaches}
 
 -- a run is a run of its own bytes
@@ -30,17 +31,59 @@ span-of-run test (b ∷ s) = go (test b) refl (span-of-run test s)
 sign-no-name : (c : ℕ) → isName (signToken c) ≡ false
 sign-no-name = sign-has (λ t. isName t ≡ false) refl refl refl refl refl refl
 
+-- bytes that start with a letter are read from there, as a word
+letter-read : (b : ℕ) (r : List ℕ) → classOf b ≡ letter → nextToken (b ∷ r) ≡ wordRead 0 (span nameByte (b ∷ r)) (b ∷ r)
+letter-read b r starts =
+    let w = b ∷ r in
+    let m = span nameByte w in
+    let no-blank : 0 ≡ span blankByte w = sym (span-ends blankByte b r (rw starts)) in
+    sym (way-word w 0 no-blank w (classOf b) m (wordToken (take m w)) refl (omega arith) refl starts refl refl)
+
+-- so they are well formed if the word is all of them and a name
+pub whole-word : (n : List ℕ) → 0 < length n → eqb (classOf (getD n 0 0)) letter ≡ true → span nameByte n ≡ length n
+    → wellFormed n ≡ isName (wordToken n)
+unfolding wellFormed
+whole-word [] some starts all = absurd (omega arith)
+whole-word (b ∷ r) some starts all =
+    let w = b ∷ r in
+    rw (letter-read b r (eqb-true (classOf b) letter starts), all, take-length w, eq-eqb (0 + length w) (length w) (omega arith))
+    (simp and-true)
+
+pub part-word : (n : List ℕ) → 0 < length n → eqb (classOf (getD n 0 0)) letter ≡ true → (span nameByte n ≡ length n → ⊥)
+    → wellFormed n ≡ false
+unfolding wellFormed
+part-word [] some starts part = absurd (omega arith)
+part-word (b ∷ r) some starts part =
+    let used = 0 + span nameByte (b ∷ r) in
+    rw (letter-read b r (eqb-true (classOf b) letter starts), ne-eqb used (length (b ∷ r)) (λ e. part (omega arith)), and-false)
+
+-- where no letter stands first, there is a blank, or a token that is no name
+pub no-letter-first : (n : List ℕ) → 0 < length n → eqb (classOf (getD n 0 0)) letter ≡ false → wellFormed n ≡ false
+unfolding wellFormed
+no-letter-first [] some other = absurd (omega arith)
+no-letter-first (b ∷ r) some other = go (blankByte b) refl
+  where
+    go : (t : Bool) → blankByte b ≡ t → wellFormed (b ∷ r) ≡ false
+    go true e =
+        let counted = span-counts blankByte b r e in
+        rw (ne-eqb (nextToken (b ∷ r) .start) 0 (λ z. omega (arith, start-is-blanks (b ∷ r))), and-false)
+    go false e =
+        let no-blank : 0 ≡ span blankByte (b ∷ r) = sym (span-ends blankByte b r e) in
+        let sign = way-sign (b ∷ r) 0 no-blank (b ∷ r) (classOf b) (signToken (classOf b)) refl (omega arith) refl
+        (eqb-false (classOf b) letter other) refl in
+        rw (← sign, sign-no-name (classOf b))
+
+pub nothing-there : (n : List ℕ) → length n ≡ 0 → wellFormed n ≡ false
+unfolding wellFormed nextToken tokenFrom span
+nothing-there [] none = refl
+nothing-there (b ∷ r) none = absurd (omega arith)
+
 -- a word that stands alone: a letter, and bytes of a name
 word-alone : (b : ℕ) (r : List ℕ) (n : ℕ) → classOf b ≡ letter → span nameByte r ≡ length r → wordToken (b ∷ r) ≡ Name n
     → wellFormed (b ∷ r) ≡ true
-unfolding wellFormed
 word-alone b r n starts all word =
-    let w = b ∷ r in
-    let no-blank : 0 ≡ span blankByte w = sym (span-ends blankByte b r (rw starts)) in
-    let counted : length w ≡ span nameByte w = rw (span-counts nameByte b r (rw starts), all) in
-    let whole : Name n ≡ wordToken (take (length w) w) = rw (take-length w, word) in
-    let read = way-word w 0 no-blank w (classOf b) (length w) (Name n) refl (omega arith) refl starts counted whole in
-    rw (← read) (eq-eqb (0 + length w) (length w) (omega arith))
+    let counted : span nameByte (b ∷ r) ≡ length (b ∷ r) = rw (span-counts nameByte b r (rw starts), all) in
+    whole-word (b ∷ r) (omega arith) (rw starts) counted ∙ ap isName word
 
 -- so is one that stands in front
 word-in-front : (b : ℕ) (s : List ℕ) (n : ℕ) → classOf b ≡ letter → wordToken (take (span nameByte (b ∷ s)) (b ∷ s)) ≡ Name n

@@ -1,8 +1,11 @@
 -- The class rule: "Bytes are blanks (32, 9, 10, 13), letters A-Z and a-z, digits 0-9, and the signs ; + * ( ). Every other byte is
 -- bad". A class is a number, as in the program's table.
+use mathlib.Core.Path.{_≡_}
 use mathlib.Core.Bool.{Bool, cond, _&&_, _||_}
-use Prim.Native.Nat.{ℕ}
+use mathlib.Core.List.{List}
+use Prim.Native.Nat.{ℕ, _<_}
 use lib.Dec.{eqb, leb}
+use lib.ListN.{getD}
 
 abbrev pub bad : ℕ
 bad = 0
@@ -50,3 +53,7 @@ classOf b =
     (cond (eqb b 42) asterisk
     (cond (eqb b 40) opening
     (cond (eqb b 41) closing bad)))))))
+
+-- "the class of each byte below 128 stands in one table"
+abbrev pub Tabled : List ℕ → Type 0
+Tabled table = (b : ℕ) → b < 128 → getD table b 0 ≡ classOf b

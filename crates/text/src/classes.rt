@@ -1,6 +1,6 @@
 // The class of each byte: one table, read by the token reader.
 ghost use mathlib.Core.Path.{_≡_};
-ghost use Rattle.text.specs.Classes.{classOf};
+ghost use Rattle.text.specs.Classes.{classOf, Tabled};
 
 // The classes, as the table has them.
 pub const BAD: u8 = 0;
@@ -153,14 +153,29 @@ const CLASSES: [u8; 128] = [
     0,
 ];
 
-// The class of a byte; all from 128 up are bad.
-pub fn class(b: u8) -> u8
+// The table. It is laid out once for all the bytes that are looked up in it.
+pub(crate) fn classes() -> [u8; 128]
+    ensures { λ r. ⌜ Tabled r ⌝ }
+{
+    CLASSES
+}
+
+// The class of a byte, looked up in the table; all from 128 up are bad.
+pub(crate) fn class_in(table: &[u8; 128], b: u8) -> u8
+    requires { ⌜ Tabled (now table) ⌝ }
     ensures { λ r. ⌜ r ≡ classOf b ⌝ }
 {
     if b < 128 {
         let i = b as usize;
-        CLASSES[i]
-    } else {
-        BAD
+        return table[i];
     }
+    BAD
+}
+
+// The class of a byte.
+pub fn class(b: u8) -> u8
+    ensures { λ r. ⌜ r ≡ classOf b ⌝ }
+{
+    let table = classes();
+    class_in(&table, b)
 }

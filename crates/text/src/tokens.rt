@@ -1,5 +1,6 @@
 // The token reader: what stands next in what is left of a text.
 ghost use mathlib.Core.Path.{_≡_};
+ghost use Rattle.text.specs.Classes.{Tabled};
 ghost use Rattle.text.specs.Tokens.{span, blankByte, nameByte, sameName, wordToken, signToken, nextToken, isName, wellFormed};
 use crate::classes::ASTERISK;
 use crate::classes::BLANK;
@@ -9,7 +10,8 @@ use crate::classes::LETTER;
 use crate::classes::OPEN;
 use crate::classes::PLUS;
 use crate::classes::SEMICOLON;
-use crate::classes::class;
+use crate::classes::class_in;
+use crate::classes::classes;
 
 // What stands next in a text.
 pub enum Token {
@@ -39,20 +41,22 @@ pub struct Read {
 }
 
 // A letter or a digit.
-fn in_name(b: u8) -> bool
+fn in_name(table: &[u8; 128], b: u8) -> bool
+    requires { ⌜ Tabled (now table) ⌝ }
     ensures { λ r. ⌜ r ≡ nameByte b ⌝ }
 {
-    let c = class(b);
+    let c = class_in(table, b);
     if c == LETTER { true } else { c == DIGIT }
 }
 
 // How many blanks the text starts with.
-fn blanks(s: &[u8]) -> usize
+fn blanks(table: &[u8; 128], s: &[u8]) -> usize
+    requires { ⌜ Tabled (now table) ⌝ }
     ensures { λ r. ⌜ r ≡ span blankByte (now (s .entry)) ⌝ }
 {
     let mut k = 0;
     while k < s.len() {
-        if class(s[k]) != BLANK {
+        if class_in(table, s[k]) != BLANK {
             return k;
         }
         k += 1;
@@ -61,12 +65,13 @@ fn blanks(s: &[u8]) -> usize
 }
 
 // How many letters and digits the text starts with.
-fn run(s: &[u8]) -> usize
+fn run(table: &[u8; 128], s: &[u8]) -> usize
+    requires { ⌜ Tabled (now table) ⌝ }
     ensures { λ r. ⌜ r ≡ span nameByte (now (s .entry)) ⌝ }
 {
     let mut i = 0;
     while i < s.len() {
-        if !in_name(s[i]) {
+        if !in_name(table, s[i]) {
             return i;
         }
         i += 1;
@@ -79,6 +84,14 @@ pub fn same_name(m: &[u8], n: &[u8]) -> bool
     ensures { λ r. ⌜ r ≡ sameName (now (m .entry)) (now (n .entry)) ⌝ }
 {
     if m.len() != n.len() {
+        return false;
+    }
+    let k = m.len();
+    if k == 0 {
+        return true;
+    }
+    // Names that differ often start alike, and then their last bytes tell.
+    if m[k - 1] != n[k - 1] {
         return false;
     }
     let mut i = 0;
@@ -134,7 +147,8 @@ fn sign_token(c: u8) -> Token
 pub fn next(s: &[u8]) -> Read
     ensures { λ r. ⌜ r ≡ nextToken (now (s .entry)) ⌝ }
 {
-    let k = blanks(s);
+    let table = classes();
+    let k = blanks(&table, s);
     let rest = &s[k..];
     if rest.len() == 0 {
         return Read {
@@ -143,9 +157,9 @@ pub fn next(s: &[u8]) -> Read
             used: k,
         };
     }
-    let c = class(rest[0]);
+    let c = class_in(&table, rest[0]);
     if c == LETTER {
-        let n = run(rest);
+        let n = run(&table, rest);
         let token = word_token(&rest[..n]);
         return Read {
             token: token,
@@ -180,17 +194,20 @@ fn is_name(token: Token) -> bool
     }
 }
 
-// The bytes are a name and nothing else.
+// The bytes are a name and nothing else: a letter, and letters and digits to the end, that the reader would take for a name.
 pub fn well_formed(n: &[u8]) -> bool
     ensures { λ r. ⌜ r ≡ wellFormed (now (n .entry)) ⌝ }
 {
-    let r = next(n);
-    if r.start != 0 {
+    if n.len() == 0 {
         return false;
     }
-    if r.used != n.len() {
+    let table = classes();
+    if class_in(&table, n[0]) != LETTER {
         return false;
     }
-    let token = r.token;
+    if run(&table, n) != n.len() {
+        return false;
+    }
+    let token = word_token(n);
     is_name(token)
 }

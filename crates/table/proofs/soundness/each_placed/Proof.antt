@@ -1,51 +1,37 @@
--- `table::soundness::each_placed` meets its contract. The invariant: what all operations say is what those from o on say.
-use mathlib.Core.Path.{_≡_, refl, sym, _∙_}
-use Prim.Native.Nat.{_-_}
+-- `table::soundness::each_placed` meets its contract: a shifted 1, less 1, is the set of all that are asked for, and what `placed` ensures is
+-- the set that is held against it. Operations that fit are below 32, so each has its bit.
+use mathlib.Core.Path.{_≡_}
+use Prim.Native.Nat.{_*_, _^_, _%_}
 use native.Mathlib.Omega.{arith}
 use borrow.Author.Needs.{needs}
-use borrow.Author.Tests.{eq-eqb, ne-eqb}
-use Rattle.table.specs.Tests.{each, placedTest, eachPlacedTest}
-use Rattle.table.proofs.Passing.{one-passes, one-fails, all-passed}
+use lib.ListN.{length}
+use lib.Pow.{pow-pos}
+use Rattle.table.specs.Tests.{eachPlacedTest}
+use Rattle.table.proofs.Placed.{bit-shifted}
+use Rattle.table.proofs.SoundOperations.{operations-say}
 use Rattle.table.proofs.soundness.each_placed.Statement.{statement}
 use Rattle.table.proofs.soundness.each_placed.Tie as tie
 
-abbrev Inv-loop : tie.InvT-loop
-Inv-loop operations n names o₀ o = eachPlacedTest operations n names ≡ each (placedTest operations n) o names
+shifted : (c : tie.Start) → 1 * 2 ^ c .args .names % 18446744073709551616 ≡ 2 ^ c .args .names
+shifted c = bit-shifted (c .args .names) (omega arith)
 
-abbrev μ-loop : tie.MeasureT-loop
-μ-loop operations n names o₀ o = names - o
+shl-all : tie.Need-shl-all
+shl-all c = search needs
 
-loop-holds : tie.Need-loop-holds Inv-loop μ-loop
-loop-holds c = refl
+sub-all : tie.Need-sub-all
+sub-all c = omega (arith, shifted c, pow-pos (c .args .names))
 
-cast-t7 : tie.Need-cast-t7 Inv-loop μ-loop
-cast-t7 c = omega arith
+placed-requires : tie.Need-placed-requires
+placed-requires c κs =
+    let a = c .args in
+    let all : length (a .operations) ≡ 64 = search needs in
+    let (few, small, fit) = c .pre in
+    let below = operations-say (a .operations) (a .n) (a .names) all few .0 fit .0 in
+    (few, λ p h. omega (arith, below p h))
 
-permission-requires : tie.Need-permission-requires Inv-loop μ-loop
-permission-requires c κs = search needs
-
-returns : tie.Need-returns Inv-loop μ-loop
-returns c =
-    let turn = c .before .before in
-    sym (turn .before .loop .inv ∙ one-fails _ _ _ (turn .loop-test .taken)
-    (rw (← (c .before .permission .ensures), eq-eqb _ _ (c .if1 .taken))))
-
-add-o : tie.Need-add-o Inv-loop μ-loop
-add-o c = omega arith
-
-loop-less : tie.Need-loop-less Inv-loop μ-loop
-loop-less c = omega arith
-
-loop-again : tie.Need-loop-again Inv-loop μ-loop
-loop-again c =
-    let turn = c .before .before in
-    turn .before .loop .inv ∙ one-passes _ _ _ (turn .loop-test .taken)
-    (rw (← (c .before .permission .ensures), ne-eqb _ _ (c .if1 .left)))
-
-returns-2 : tie.Need-returns-2 Inv-loop μ-loop
-returns-2 c = sym (c .before .loop .inv ∙ all-passed _ _ _ (c .loop-test .left))
+returns : tie.Need-returns
+unfolding eachPlacedTest
+returns c = rw (shifted (c .before), c .placed .ensures)
 
 pub each-placed-spec : {M : Type 1} → statement M
-each-placed-spec =
-    tie.close
-    (tie.spec Inv-loop μ-loop loop-holds cast-t7 permission-requires returns add-o loop-less loop-again returns-2)
+each-placed-spec = tie.close (tie.spec shl-all sub-all placed-requires returns)

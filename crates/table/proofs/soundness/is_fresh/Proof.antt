@@ -37,8 +37,8 @@ returns c =
     let w = c .before .well-formed in
     simp (test-failed (simp lent-bytes at (w .ensures)) (c .if1 .taken))
 
-find-requires : tie.Need-find-requires
-find-requires c κs = search needs
+find-among-requires : tie.Need-find-among-requires
+find-among-requires c κs = search needs
 
 is-new-requires : tie.Need-is-new-requires
 is-new-requires c κs = search needs
@@ -46,7 +46,7 @@ is-new-requires c κs = search needs
 returns-2 : tie.Need-returns-2
 unfolding freshTest
 returns-2 c =
-    let f = c .before .find in
+    let f = c .before .find-among in
     let l = c .before .before in
     let w = l .before .well-formed in
     simp (
@@ -66,6 +66,6 @@ is-fresh-spec =
     part-name-end
     well-formed-requires
     returns
-    find-requires
+    find-among-requires
     is-new-requires
     returns-2)

@@ -1,6 +1,6 @@
 -- `table::soundness::is_sound` meets its contract: at each `return` the answer is what the tests say, of which one that fails
 -- decides, and the tests decide soundness.
-use mathlib.Core.Path.{_≡_}
+use mathlib.Core.Path.{_≡_, sym}
 use mathlib.Core.Bool.{Bool, true, and-false}
 use mathlib.Core.Logic.{_↔_}
 use borrow.Author.Needs.{needs}
@@ -8,12 +8,15 @@ use Rattle.table.specs.Soundness.{Sound}
 use Rattle.table.specs.Tests.{soundTest}
 use Rattle.table.proofs.Passing.{test-passed, test-failed}
 use Rattle.table.proofs.SoundTests.{counts-say, tests-decide-sound}
-use Rattle.table.proofs.Whole.{told-whole}
+use Rattle.table.proofs.Whole.{Whole, told-whole}
 use Rattle.table.proofs.soundness.is_sound.Statement.{statement}
 use Rattle.table.proofs.soundness.is_sound.Tie as tie
 
+whole : (c : tie.Start) → Whole (c .args .t)
+whole c = told-whole (c .args .t) _ (c .good .0)
+
 decided : (c : tie.Start) (r : Bool) → r ≡ soundTest (c .args .t) → (r ≡ true) ↔ Sound (c .args .t)
-decided c = tests-decide-sound (c .args .t) (told-whole (c .args .t) _ (c .good .0))
+decided c = tests-decide-sound (c .args .t) (whole c)
 
 -- the start, seen from behind each test that was passed
 abbrev from1 : tie.Else1 → tie.Start
@@ -30,6 +33,9 @@ from4 c = from3 (c .before .before)
 
 abbrev from5 : tie.Else5 → tie.Start
 from5 c = from4 (c .before .before .before .before)
+
+abbrev before-names : tie.After-names-fit → tie.Else5
+before-names c = c .before .before .before .before .before
 
 counts-fit-requires : tie.Need-counts-fit-requires
 counts-fit-requires c κs = search needs
@@ -51,7 +57,8 @@ each-placed-requires : tie.Need-each-placed-requires
 each-placed-requires c κs =
     let e1 = c .before .before .before in
     let t = from1 e1 .args .t in
-    counts-say (t .positions) (t .names) (test-passed (e1 .before .counts-fit .ensures) (e1 .if1 .left)) .names-most
+    let counts = counts-say (t .positions) (t .names) (test-passed (e1 .before .counts-fit .ensures) (e1 .if1 .left)) in
+    (counts .positions-most, counts .names-most, test-passed (c .before .operations-fit .ensures) (c .if2 .left))
 
 returns-3 : tie.Need-returns-3
 unfolding soundTest
@@ -77,14 +84,22 @@ returns-5 c =
     let b = c .before in
     decided (from4 (b .before .before .before)) _ (simp (test-failed (b .rows-fit .ensures) (c .if5 .taken), and-false))
 
+slice-aggregate-names-fit : tie.Need-slice-aggregate-names-fit
+slice-aggregate-names-fit c = sym (whole (from5 (c .before .before .before)) .lengths)
+
+slice-aggregate-names-fit-2 : tie.Need-slice-aggregate-names-fit-2
+slice-aggregate-names-fit-2 c = sym (whole (from5 (c .before .before .before .before)) .bytes)
+
 names-fit-requires : tie.Need-names-fit-requires
-names-fit-requires c κs = search needs
+names-fit-requires c κs =
+    let cells = whole (from5 (c .before .before .before .before)) in
+    (cells .lengths, cells .bytes)
 
 returns-6 : tie.Need-returns-6
 unfolding soundTest
 returns-6 c =
     let b = c .before in
-    decided (from5 (b .before .before .before)) _ (simp (test-failed (b .names-fit .ensures) (c .if6 .taken), and-false))
+    decided (from5 (before-names b)) _ (simp (test-failed (b .names-fit .ensures) (c .if6 .taken), and-false))
 
 mark-of-requires : tie.Need-mark-of-requires
 mark-of-requires c κs = search needs
@@ -94,7 +109,7 @@ returns-7 : tie.Need-returns-7
 unfolding soundTest
 returns-7 c =
     let e6 = c .before .before in
-    let e5 = e6 .before .before .before .before in
+    let e5 = before-names (e6 .before) in
     let e4 = e5 .before .before .before .before in
     let e3 = e4 .before .before in
     let e2 = e3 .before .before in
@@ -124,6 +139,8 @@ is-sound-spec =
     returns-4
     rows-fit-requires
     returns-5
+    slice-aggregate-names-fit
+    slice-aggregate-names-fit-2
     names-fit-requires
     returns-6
     mark-of-requires

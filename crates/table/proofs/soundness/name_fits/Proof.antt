@@ -37,7 +37,7 @@ zeros-requires c κs = search needs
 returns-3 : tie.Need-returns-3
 unfolding nameTest
 returns-3 c =
-    let l = c .before .before in
+    let l = c .before in
     let u = l .before in
     simp (le-leb _ _ (u .before .if1 .left), test-passed (u .use-fits .ensures) (l .if2 .left)) (c .zeros .ensures)
 

@@ -11,25 +11,25 @@ use Rattle.text.proofs.tokens.blanks.Statement.{statement}
 use Rattle.text.proofs.tokens.blanks.Tie as tie
 
 abbrev Inv-loop : tie.InvT-loop
-Inv-loop s k₀ k = (k ≤ length s) × Passed blankByte s k
+Inv-loop table s k₀ k = (k ≤ length s) × Passed blankByte s k
 
 abbrev μ-loop : tie.MeasureT-loop
-μ-loop s k₀ k = length s - k
+μ-loop table s k₀ k = length s - k
 
 loop-holds : tie.Need-loop-holds Inv-loop μ-loop
 loop-holds c = (search needs, none-passed blankByte _)
 
-shared-slice-read-class : tie.Need-shared-slice-read-class Inv-loop μ-loop
-shared-slice-read-class c = omega arith
+shared-slice-read-class-in : tie.Need-shared-slice-read-class-in Inv-loop μ-loop
+shared-slice-read-class-in c = omega arith
 
-class-requires : tie.Need-class-requires Inv-loop μ-loop
-class-requires c κs = search needs
+class-in-requires : tie.Need-class-in-requires Inv-loop μ-loop
+class-in-requires c κs = c .before .before .before .before .pre
 
 returns : tie.Need-returns Inv-loop μ-loop
 returns c =
     let turn = c .before .before .before in
     passed-to-failing blankByte _ _ (turn .loop-test .taken)
-    (rw (← (c .before .class .ensures)) (ne-eqb _ _ (c .if1 .taken)))
+    (rw (← (c .before .class-in .ensures)) (ne-eqb _ _ (c .if1 .taken)))
     (turn .before .loop .inv .1)
 
 add-k : tie.Need-add-k Inv-loop μ-loop
@@ -43,7 +43,7 @@ loop-again c =
     let turn = c .before .before .before in (
       omega arith,
       one-more-passed blankByte _ _ (turn .loop-test .taken)
-          (rw (← (c .before .class .ensures)) (eq-eqb _ _ (c .if1 .left)))
+          (rw (← (c .before .class-in .ensures)) (eq-eqb _ _ (c .if1 .left)))
           (turn .before .loop .inv .1),
     )
 
@@ -53,4 +53,4 @@ returns-2 c = passed-to-end blankByte _ _ (c .loop-test .left) (c .before .loop 
 pub blanks-spec : {M : Type 1} → statement M
 blanks-spec =
     tie.close
-    (tie.spec Inv-loop μ-loop loop-holds shared-slice-read-class class-requires returns add-k loop-less loop-again returns-2)
+    (tie.spec Inv-loop μ-loop loop-holds shared-slice-read-class-in class-in-requires returns add-k loop-less loop-again returns-2)

@@ -11,10 +11,10 @@ use Rattle.text.proofs.tokens.run.Statement.{statement}
 use Rattle.text.proofs.tokens.run.Tie as tie
 
 abbrev Inv-loop : tie.InvT-loop
-Inv-loop s i₀ i = (i ≤ length s) × Passed nameByte s i
+Inv-loop table s i₀ i = (i ≤ length s) × Passed nameByte s i
 
 abbrev μ-loop : tie.MeasureT-loop
-μ-loop s i₀ i = length s - i
+μ-loop table s i₀ i = length s - i
 
 loop-holds : tie.Need-loop-holds Inv-loop μ-loop
 loop-holds c = (search needs, none-passed nameByte _)
@@ -23,7 +23,7 @@ shared-slice-read-in-name : tie.Need-shared-slice-read-in-name Inv-loop μ-loop
 shared-slice-read-in-name c = omega arith
 
 in-name-requires : tie.Need-in-name-requires Inv-loop μ-loop
-in-name-requires c κs = search needs
+in-name-requires c κs = c .before .before .before .before .pre
 
 returns : tie.Need-returns Inv-loop μ-loop
 returns c =

@@ -1,32 +1,66 @@
--- `text::tokens::well_formed` meets its contract: what `next` and `is_name` ensure says the tests of `wellFormed`, of which one
--- that fails decides.
-use mathlib.Core.Bool.{and-true, and-false}
+-- `text::tokens::well_formed` meets its contract: at each `return` what the calls ensure are the tests of one law of WellFormed.antt.
+use mathlib.Core.Path.{_≡_, sym, ap, _∙_}
+use mathlib.Core.Bool.{true}
+use native.Mathlib.Omega.{arith}
 use borrow.Author.Needs.{needs}
 use borrow.Author.Tests.{eq-eqb, ne-eqb}
-use Rattle.text.specs.Tokens.{wellFormed}
+use lib.Dec.{eqb}
+use lib.ListN.{getD}
+use Rattle.text.specs.Classes.{letter, classOf}
+use Rattle.text.specs.Tokens.{isName}
+use Rattle.text.proofs.WellFormed.{whole-word, part-word, no-letter-first, nothing-there}
 use Rattle.text.proofs.tokens.well_formed.Statement.{statement}
 use Rattle.text.proofs.tokens.well_formed.Tie as tie
 
-next-requires : tie.Need-next-requires
-next-requires c κs = search needs
+-- the first byte is a letter
+letter-first : (c : tie.Else2) → eqb (classOf (getD (c .before .before .before .before .before .before .before .args .n .now) 0 0)) letter ≡ true
+letter-first c = rw (← (c .before .class-in .ensures)) (eq-eqb _ _ (c .if2 .left))
 
 returns : tie.Need-returns
-unfolding wellFormed
-returns c = simp (← (c .before .before .next .ensures), ne-eqb _ _ (c .if1 .taken), and-false)
+returns c = sym (nothing-there _ (c .if1 .taken))
+
+classes-requires : tie.Need-classes-requires
+classes-requires c κs = search needs
+
+shared-slice-read-class-in : tie.Need-shared-slice-read-class-in
+shared-slice-read-class-in c = search needs
+
+class-in-requires : tie.Need-class-in-requires
+class-in-requires c κs = search needs
 
 returns-2 : tie.Need-returns-2
-unfolding wellFormed
-returns-2 c = simp (← (c .before .before .before .before .next .ensures), ne-eqb _ _ (c .if2 .taken), and-false)
+returns-2 c =
+    sym (no-letter-first (c .before .before .before .before .before .before .before .args .n .now) (omega arith) (rw (← (c .before .class-in .ensures)) (ne-eqb _ _ (c .if2 .taken))))
+
+run-requires : tie.Need-run-requires
+run-requires c κs = search needs
+
+returns-3 : tie.Need-returns-3
+returns-3 c =
+    sym (part-word (c .before .before .before .before .before .before .before .before .before .before .args .n .now) (omega arith) (letter-first (c .before .before .before)) (λ e. c .if3 .taken (c .before .run .ensures ∙ e)))
+
+word-token-requires : tie.Need-word-token-requires
+word-token-requires c κs = search needs
 
 is-name-requires : tie.Need-is-name-requires
 is-name-requires c κs = search needs
 
-returns-3 : tie.Need-returns-3
-unfolding wellFormed
-returns-3 c =
-    let l = c .before in
-    let r = l .before .before in
-    simp (← (r .before .before .next .ensures), eq-eqb _ _ (r .if1 .left), eq-eqb _ _ (l .if2 .left), and-true) (c .is-name .ensures)
+returns-4 : tie.Need-returns-4
+returns-4 c =
+    let whole = whole-word (c .before .before .before .before .before .before .before .before .before .before .before .before .args .n .now) (omega arith) (letter-first (c .before .before .before .before .before)) (sym (c .before .before .before .run .ensures) ∙ c .before .before .if3 .left) in
+    c .is-name .ensures ∙ ap isName (c .before .word-token .ensures) ∙ sym whole
 
 pub well-formed-spec : {M : Type 1} → statement M
-well-formed-spec = tie.close (tie.spec next-requires returns returns-2 is-name-requires returns-3)
+well-formed-spec =
+    tie.close
+    (tie.spec
+    returns
+    classes-requires
+    shared-slice-read-class-in
+    class-in-requires
+    returns-2
+    run-requires
+    returns-3
+    word-token-requires
+    is-name-requires
+    returns-4)
