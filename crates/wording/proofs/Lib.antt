@@ -1,0 +1,10 @@
+pub mod AskWays
+pub mod Determined
+pub mod Digits
+pub mod Fields
+pub mod LineWays
+pub mod Numbers
+pub mod Pieces
+pub mod Putting
+pub mod Sizes
+pub mod Written

@@ -1,0 +1,4 @@
+pub mod Lines
+pub mod Orders
+pub mod Promises
+pub mod Writing
