@@ -1,0 +1,15 @@
+pub mod Existing
+pub mod Fitting
+pub mod Lengths
+pub mod Names
+pub mod OneTranscript
+pub mod Onward
+pub mod Openings
+pub mod Places
+pub mod Printing
+pub mod ReplyLengths
+pub mod SameReplies
+pub mod Shown
+pub mod Tables
+pub mod Turns
+pub mod Wholes

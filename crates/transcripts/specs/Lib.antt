@@ -1,0 +1,4 @@
+pub mod Promises
+pub mod Replies
+pub mod Talking
+pub mod Transcript
