@@ -8,6 +8,7 @@
 use std::io::{Read, Write};
 use std::sync::atomic::Ordering::Relaxed;
 
+mod chance;
 mod generate;
 mod paths;
 mod scripts;

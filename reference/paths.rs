@@ -4,7 +4,7 @@ use crate::table::{Table, ZEROS};
 const BLANK: [u8; 4] = [32, 9, 10, 13];
 
 #[derive(Clone, Copy, PartialEq, Debug)]
-enum Token<'a> {
+pub enum Token<'a> {
     Sign(u8),
     Path,
     End,
@@ -12,10 +12,10 @@ enum Token<'a> {
 }
 
 // A refusal: its number and its place.
-type Refusal = (u8, usize);
+pub type Refusal = (u8, usize);
 
 // The token at or behind `at`, its place, and where the next may start; none at the end of the text.
-fn token(text: &[u8], at: usize) -> Result<Option<(Token<'_>, usize, usize)>, Refusal> {
+pub fn token(text: &[u8], at: usize) -> Result<Option<(Token<'_>, usize, usize)>, Refusal> {
     let mut k = at;
     while k < text.len() && BLANK.contains(&text[k]) {
         k += 1;

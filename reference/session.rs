@@ -138,7 +138,10 @@ impl Session {
         if let Some(r) = self.refused(list, terminal) {
             return r;
         }
-        let Some(operation) = self.table.find(name) else { return Reply::Refused(11) };
+        let operation = match self.table.find(name) {
+            Some(operation) => operation,
+            None => return Reply::Refused(11),
+        };
         if self.running == Some(terminal) {
             return Reply::Refused(12);
         }

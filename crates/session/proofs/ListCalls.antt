@@ -53,7 +53,7 @@ Lists κ b o γ ys = MutSlice (named 1) κ E.the-row .own (ref-to b o γ ys) (sl
 
 -- the list and the token of its lifetime; and what is left of them, once the list is handed over for good and has ended as zs
 module _ {M : Type 1} {𝓤 : URA M} (κ : Lft) (q : Share) where
-  abbrev Had : ℕ → ℕ → GName → List Entry → Item 𝓤
+  abbrev pub Had : ℕ → ℕ → GName → List Entry → Item 𝓤
   Had b o γ ys = ‵ (Lists κ b o γ ys) ⊛ ‵ (flft κ q)
 
   abbrev pub Left : GName → List Entry → Item 𝓤
