@@ -98,12 +98,16 @@ def main():
             print("." + old, new)
         return
     token = re.compile(r"(\.?)(" + WORD + ")")
+    own = "|".join(sorted(c.split("/")[1] for c in glob.glob("crates/*/")))
+    foreign = re.compile(r"^\s*(?:ghost |pub )?use (?!Rattle\.(?:" + own + r")\.)[^{;\n]*\{([^}]*)\}", re.M)
 
-    def turned(line, antt=True):
+    def turned(line, kept=()):
         use = re.match(r"\s*(ghost use|use|pub use)\s", line) is not None
 
         def one(m):
             dot, word = m.groups()
+            if word in kept:
+                return dot + word
             if dot and not use:
                 return dot + field.get(word, word)
             return dot + top.get(word, field.get(word, word))
@@ -113,7 +117,9 @@ def main():
     texts = glob.glob("crates/*/specs/**/*.antt", recursive=True) + glob.glob("crates/*/proofs/**/*.antt", recursive=True)
     for path in sorted(texts + glob.glob("crates/*/must-fail/*.edit")):
         old = open(path, encoding="utf-8").read()
-        new = "".join(line if line.lstrip().startswith("--") else turned(line) for line in old.splitlines(True))
+        # what comes from a library keeps its name
+        kept = {w for names in foreign.findall(old) for w in re.findall(WORD, names)}
+        new = "".join(line if line.lstrip().startswith("--") else turned(line, kept) for line in old.splitlines(True))
         new = re.sub(r"`([^`\n]+)`", lambda m: "`" + turned(m.group(1)) + "`", new)
         if new != old:
             open(path, "w", encoding="utf-8").write(new)

@@ -4,7 +4,7 @@ use mathlib.Core.Bool.{true, false}
 use mathlib.Core.List.{List}
 use Prim.Native.Nat.{ℕ, ◌+◌, ◌-◌, ◌≤◌}
 use native.Mathlib.Omega.{arith}
-use borrow.Author.Tests.{not_true, not_false}
+use borrow.Author.Tests.{not-true, not-false}
 use lib.Dec.{eqb}
 use lib.ListN.{length, drop}
 use lib.Seq.{drop-drop}
@@ -67,7 +67,7 @@ module _ (s : List ℕ) (p : Reading) (st : Starring) (z : p.number ≡ 0) (w : 
         refused_stays = λ _. refl;
         times = stars-at.times;
         number_stays = refl;
-        part_starred = λ _. rw (not_false (eqb stars-at.times 0) (sym stars-at.any_if ∙ e)) refl;
+        part_starred = λ _. rw (not-false (eqb stars-at.times 0) (sym stars-at.any_if ∙ e)) refl;
         ends = λ _. stars-ended p.left none;
         goes = λ _. stars-go p.left none;
       }
@@ -85,7 +85,7 @@ module _ (s : List ℕ) (p : Reading) (st : Starring) (z : p.number ≡ 0) (w : 
         refused_stays = λ n. absurd (n z);
         times = stars-at.times;
         number_stays = ap (λ (q : Reading). q.number) is ∙ sym z;
-        part_starred = λ _. rw (is, not_true (eqb stars-at.times 0) (sym stars-at.any_if ∙ e)) refl;
+        part_starred = λ _. rw (is, not-true (eqb stars-at.times 0) (sym stars-at.any_if ∙ e)) refl;
         ends = λ _. stars-ended r.left left;
         goes = λ _. stars-go r.left left;
       }

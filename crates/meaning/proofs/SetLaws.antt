@@ -8,7 +8,7 @@ use mathlib.Core.Bool.{Bool, true, false, cond, not, ◌||◌, ◌&&◌, false�
 use Prim.Native.Nat.{ℕ, zero, suc, ◌+◌, ◌*◌, ◌<◌, ◌≤◌, ◌/◌, ◌%◌, ◌^◌, min, max}
 use native.Mathlib.Nat.{not-suc-le-zero, le_of_suc-le-suc, pow-suc, pow-zero}
 use native.Mathlib.Omega.{arith}
-use borrow.Author.Tests.{eqb-true, eqb-false, eq-eqb, ne_eqb, ltb-true, ltb-false, not_true}
+use borrow.Author.Tests.{eqb-true, eqb-false, eq-eqb, ne_eqb, ltb-true, ltb-false, not-true}
 use lib.ListN.{length, get_or}
 use lib.Dec.{eqb, ltb, eqb-zero-suc, eqb-suc-zero, eqb-suc-suc}
 use lib.Bits.{bit_or, bit_and, or_step, and_step}
@@ -193,7 +193,7 @@ member_not_none p s m e = none_in p (rw e at m)
 
 -- the test that a set is not empty
 pub not_empty_says : (s : ℕ) → (not (eqb s 0) ≡ true) ↔ (s ≢ 0)
-not_empty_says s = (λ t. eqb-false s 0 (not_true (eqb s 0) t), λ h. rw (ne_eqb s 0 h))
+not_empty_says s = (λ t. eqb-false s 0 (not-true (eqb s 0) t), λ h. rw (ne_eqb s 0 h))
 
 -- a set with members below k only is below 2 ^ k
 pub members_below : (k s : ℕ) → ((p : ℕ) → In p s → p < k) → s < 2 ^ k

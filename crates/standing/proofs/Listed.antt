@@ -7,7 +7,7 @@ use mathlib.Core.Logic.{◌↔◌, ◌≢◌, ⊎_elim, inl, inr}
 use Prim.Native.Nat.{ℕ, zero, suc, ◌<◌}
 use native.Mathlib.Nat.{not-suc-le-zero, le_of_suc-le-suc, suc_inj}
 use native.Mathlib.Omega.{arith}
-use borrow.Author.Tests.{ltb-true, lt-ltb, not_true}
+use borrow.Author.Tests.{ltb-true, lt-ltb, not-true}
 use lib.Bits.{bit_or}
 use lib.Dec.{ltb}
 use lib.ListN.{length}
@@ -38,9 +38,9 @@ fits_says names barred taken e =
           let two = (and-eq-true_iff below new).0 three.0 in
           record {
             below = ltb-true e.terminal.0 64 two.0;
-            new = λ i. false≢true (sym (not_true (mem e.terminal.0 taken) two.1) ∙ i);
+            new = λ i. false≢true (sym (not-true (mem e.terminal.0 taken) two.1) ∙ i);
             exists = ltb-true e.operation.0 names three.1;
-            unbarred = not_true (mem e.operation.0 barred) four.1;
+            unbarred = not-true (mem e.operation.0 barred) four.1;
           },
       λ f.
           rw (

@@ -5,7 +5,7 @@ use mathlib.Core.Bool.{Bool, true, false, cond, not, ◌&&◌, and-eq-true_iff}
 use mathlib.Core.List.{List, []}
 use mathlib.Core.Logic.{◌↔◌, ⊎_elim}
 use Prim.Native.Nat.{ℕ, ◌+◌, ◌*◌, ◌≤◌, ◌<◌}
-use borrow.Author.Tests.{eqb-true, eq-eqb, leb-true, le-leb, lt-ltb, le-ltb, not_true}
+use borrow.Author.Tests.{eqb-true, eq-eqb, leb-true, le-leb, lt-ltb, le-ltb, not-true}
 use lib.Dec.{leb}
 use lib.ListN.{length, take, get_or}
 use Rattle.meaning.specs.Names.{Name, key}
@@ -34,7 +34,7 @@ unfolding fresh_test
 fresh_says name before = (
   λ t.
       let both = (and-eq-true_iff (well_formed name) (is_new (found_in before (key name)))).0 t in
-      (both.0, not_true _ (sym (new_not_held before (key name)) ∙ both.1)),
+      (both.0, not-true _ (sym (new_not_held before (key name)) ∙ both.1)),
   λ says. rw (says.0, new_not_held before (key name), says.1),
 )
 

@@ -7,7 +7,7 @@ use mathlib.Core.Logic.{◌↔◌, ⊎_elim, inl, inr}
 use Prim.Native.Nat.{ℕ, zero, suc, ◌<◌}
 use native.Mathlib.Nat.{not-suc-le-zero, le_of_suc-le-suc}
 use native.Mathlib.Omega.{arith}
-use borrow.Author.Tests.{eqb-true, eq-eqb, not_true}
+use borrow.Author.Tests.{eqb-true, eq-eqb, not-true}
 use lib.Dec.{eqb}
 use lib.ListN.{length, get_or}
 use Rattle.meaning.specs.Names.{Name, key}
@@ -49,7 +49,7 @@ module _ (z : Operation) where
   none-twice-apart [] h p q l m e = absurd (not-suc-le-zero l)
   none-twice-apart (x ∷ os) h p q l m e =
       let (alone, rest) = (and-eq-true_iff (not (among os x.0)) (none_twice os)).0 h in
-      go (none-twice-apart os rest) (not_true (among os x.0) alone) p q l m e
+      go (none-twice-apart os rest) (not-true (among os x.0) alone) p q l m e
     where
       again : among os x.0 ≡ false → (r : ℕ) → r < length os → (get_or os r z).0 ≡ x.0 → ⊥
       again new r l e = false≢true (sym new ∙ at-among os x.0 r l e)

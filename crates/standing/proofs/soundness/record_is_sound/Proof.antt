@@ -3,7 +3,7 @@
 use mathlib.Core.Path.{◌≡◌}
 use mathlib.Core.Bool.{Bool, true}
 use mathlib.Core.Logic.{◌↔◌}
-use borrow.Author.Tests.{not_true, not_false}
+use borrow.Author.Tests.{not-true, not-false}
 use borrow.Author.Rules.{rules}
 use Rattle.table.specs.Soundness.{Sound as TableSound}
 use Rattle.table.proofs.Passing.{test_passed, test_failed}
@@ -23,7 +23,7 @@ is-sound-requires c κs = search rules
 returns : tie.Need-returns
 returns c =
     let b = c.before in
-    decided b.before.before b.is_sound.result b.is_sound.ensures _ (rw (not_true b.is_sound.result c.if1.true))
+    decided b.before.before b.is_sound.result b.is_sound.ensures _ (rw (not-true b.is_sound.result c.if1.true))
 
 fits-requires : tie.Need-fits-requires
 fits-requires c κs = search rules
@@ -33,7 +33,7 @@ returns-2 c =
     let e1 = c.before.before in
     let b = e1.before in
     decided b.before.before b.is_sound.result b.is_sound.ensures _
-    (rw (not_false b.is_sound.result e1.if1.false, test_failed c.before.fits2.ensures c.if2.true))
+    (rw (not-false b.is_sound.result e1.if1.false, test_failed c.before.fits2.ensures c.if2.true))
 
 operations-in-requires : tie.Need-operations-in-requires
 operations-in-requires c κs = search rules
@@ -49,7 +49,7 @@ returns-3 c =
     let b = e1.before in
     decided b.before.before b.is_sound.result b.is_sound.ensures _
     (rw (
-      not_false b.is_sound.result e1.if1.false,
+      not-false b.is_sound.result e1.if1.false,
       test_passed e2.before.fits2.ensures e2.if2.false,
       ← o.operations-in.ensures,
       test_failed c.before.state-fits.ensures c.if3.true,
@@ -64,7 +64,7 @@ returns-4 c =
     let b = e1.before in
     decided b.before.before b.is_sound.result b.is_sound.ensures _
     (rw (
-      not_false b.is_sound.result e1.if1.false,
+      not-false b.is_sound.result e1.if1.false,
       test_passed e2.before.fits2.ensures e2.if2.false,
       ← o.operations-in.ensures,
       test_passed e3.before.state-fits.ensures e3.if3.false,

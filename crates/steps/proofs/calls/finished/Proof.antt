@@ -1,6 +1,6 @@
 -- `steps::calls::finished` meets its contract: the tests in order.
 use mathlib.Core.Path.{sym, ◌∙◌}
-use borrow.Author.Tests.{eq-eqb, ne_eqb, not_true, not_false}
+use borrow.Author.Tests.{eq-eqb, ne_eqb, not-true, not-false}
 use borrow.Author.Rules.{rules}
 use Rattle.steps.specs.Values.{finish_value}
 use Rattle.steps.proofs.calls.finished.Statement.{statement}
@@ -34,7 +34,7 @@ returns-2 c =
       is = rw (
         sym f.is,
         eq-eqb _ 0 c.before.before.before.if1.false,
-        sym c.before.before.runs.ensures ∙ not_true _ c.before.if2.true,
+        sym c.before.before.runs.ensures ∙ not-true _ c.before.if2.true,
       )
           c.not-finished2.ensures;
     }
@@ -52,7 +52,7 @@ returns-3 c =
       is = rw (
         sym f.is,
         eq-eqb _ 0 c.before.before.before.if1.false,
-        sym c.before.before.runs.ensures ∙ not_false _ c.before.if2.false,
+        sym c.before.before.runs.ensures ∙ not-false _ c.before.if2.false,
       )
           c.finish-step.ensures;
     }

@@ -1,5 +1,5 @@
 -- `steps::calls::opened` meets its contract: the tests in order.
-use borrow.Author.Tests.{lt-ltb, le-ltb, not_true, not_false}
+use borrow.Author.Tests.{lt-ltb, le-ltb, not-true, not-false}
 use borrow.Author.Rules.{rules}
 use Rattle.steps.specs.Values.{open_value}
 use Rattle.steps.proofs.calls.opened.Statement.{statement}
@@ -27,7 +27,7 @@ returns-2 c =
     record {
       sound = b.result;
       says = b.ensures;
-      is = rw (le-ltb _ 64 c.before.before.if1.false, not_true b.result c.before.if2.true) c.not-opened2.ensures;
+      is = rw (le-ltb _ 64 c.before.before.if1.false, not-true b.result c.before.if2.true) c.not-opened2.ensures;
     }
 
 open-step-requires : tie.Need-open-step-requires
@@ -40,7 +40,7 @@ returns-3 c =
     record {
       sound = b.result;
       says = b.ensures;
-      is = rw (le-ltb _ 64 c.before.before.if1.false, not_false b.result c.before.if2.false, c.open_step.ensures);
+      is = rw (le-ltb _ 64 c.before.before.if1.false, not-false b.result c.before.if2.false, c.open_step.ensures);
     }
 
 pub opened-spec : {M : Type 1} → statement M

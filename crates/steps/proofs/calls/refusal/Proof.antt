@@ -1,6 +1,6 @@
 -- `steps::calls::refusal` meets its contract: the tests in order.
 use mathlib.Core.Bool.{and-false}
-use borrow.Author.Tests.{lt-ltb, le-ltb, not_true, not_false}
+use borrow.Author.Tests.{lt-ltb, le-ltb, not-true, not-false}
 use borrow.Author.Rules.{rules}
 use Rattle.steps.specs.Values.{first_number}
 use Rattle.steps.proofs.calls.refusal.Statement.{statement}
@@ -19,14 +19,14 @@ returns-2 : tie.Need-returns-2
 unfolding first_number
 returns-2 c =
     let b = c.before.before.record-is-sound in
-    record { sound = b.result; says = b.ensures; is = rw (le-ltb _ 64 c.before.if1.false, not_true b.result c.if2.true) }
+    record { sound = b.result; says = b.ensures; is = rw (le-ltb _ 64 c.before.if1.false, not-true b.result c.if2.true) }
 
 returns-3 : tie.Need-returns-3
 unfolding first_number
 returns-3 c =
     let e2 = c.before.before in
     let b = e2.before.before in
-    let failed = not_true b.before.args.found.fits c.if3.true in
+    let failed = not-true b.before.args.found.fits c.if3.true in
     record {
       sound = b.record-is-sound.result;
       says = b.record-is-sound.ensures;
@@ -39,14 +39,14 @@ returns-4 c =
     let e3 = c.before.before in
     let e2 = e3.before.before in
     let b = e2.before.before in
-    let passed = not_false b.before.args.found.fits e3.if3.false in
+    let passed = not-false b.before.args.found.fits e3.if3.false in
     record {
       sound = b.record-is-sound.result;
       says = b.record-is-sound.ensures;
       is =
           rw (
             le-ltb _ 64 e2.before.if1.false,
-            not_false b.record-is-sound.result e2.if2.false,
+            not-false b.record-is-sound.result e2.if2.false,
             passed,
             lt-ltb 63 _ c.if4.true,
           );
@@ -58,14 +58,14 @@ returns-5 c =
     let e3 = c.before.before in
     let e2 = e3.before.before in
     let b = e2.before.before in
-    let passed = not_false b.before.args.found.fits e3.if3.false in
+    let passed = not-false b.before.args.found.fits e3.if3.false in
     record {
       sound = b.record-is-sound.result;
       says = b.record-is-sound.ensures;
       is =
           rw (
             le-ltb _ 64 e2.before.if1.false,
-            not_false b.record-is-sound.result e2.if2.false,
+            not-false b.record-is-sound.result e2.if2.false,
             passed,
             le-ltb 63 _ c.if4.false,
           );

@@ -3,7 +3,7 @@
 use Prim.Native.Nat.{◌≤◌, ◌-◌}
 use native.Mathlib.Omega.{arith}
 use borrow.Author.Rules.{rules}
-use borrow.Author.Tests.{not_true, not_false}
+use borrow.Author.Tests.{not-true, not-false}
 use lib.ListN.{length}
 use Rattle.text.specs.Tokens.{name_byte}
 use Rattle.text.proofs.Spans.{Passed, none_passed, one-more-passed, passed-to-failing, passed-to-end}
@@ -29,7 +29,7 @@ returns : tie.Need-returns invariant-loop decreases-loop
 returns c =
     let turn = c.before.before.before in
     passed-to-failing name_byte _ _ turn.loop-test.true
-    (rw (← c.before.in-name.ensures) (not_true _ c.if1.true))
+    (rw (← c.before.in-name.ensures) (not-true _ c.if1.true))
     turn.before.loop.invariant.1
 
 add-i : tie.Need-overflow-add-i invariant-loop decreases-loop
@@ -43,7 +43,7 @@ loop-again c =
     let turn = c.before.before.before in (
       omega arith,
       one-more-passed name_byte _ _ turn.loop-test.true
-          (rw (← c.before.in-name.ensures) (not_false _ c.if1.false))
+          (rw (← c.before.in-name.ensures) (not-false _ c.if1.false))
           turn.before.loop.invariant.1,
     )
 

@@ -4,7 +4,7 @@ use mathlib.Core.Logic.{inl, inr}
 use Prim.Native.Nat.{◌≤◌, ◌-◌}
 use native.Mathlib.Omega.{arith}
 use borrow.Author.Rules.{rules}
-use borrow.Author.Tests.{not_true, not_false}
+use borrow.Author.Tests.{not-true, not-false}
 use lib.ListN.{length, drop, get_or, drop_of_length-le}
 use Rattle.wording.specs.Orders.{all_digits, value_from, value_of}
 use Rattle.wording.proofs.Numbers.{Small, no_digits, small_next, digit_range, digit-here, no-digit-here, value-here}
@@ -42,7 +42,7 @@ is-digit-requires c κs = search rules
 returns-3 : tie.Need-returns-3 invariant-loop decreases-loop
 returns-3 c =
     let turn = c.before.before.before.before in
-    let no = sym c.before.is_digit.ensures ∙ not_true _ c.if3.true in
+    let no = sym c.before.is_digit.ensures ∙ not-true _ c.if3.true in
     sym
     (not-all-digits _ turn.loop.invariant.1 turn.loop.invariant.2
     (turn.loop.invariant.3 ∙ no-digit-here _ _ c.before.before.before.loop-test.true no))
@@ -52,14 +52,14 @@ mul-value c = let small = c.before.before.before.before.loop.invariant.5.three i
 
 sub-value : tie.Need-overflow-sub-value invariant-loop decreases-loop
 sub-value c =
-    (digit_range _ (sym c.before.is_digit.ensures ∙ not_false _ c.if3.false)).0
+    (digit_range _ (sym c.before.is_digit.ensures ∙ not-false _ c.if3.false)).0
 
 cast-value : tie.Need-overflow-cast-value invariant-loop decreases-loop
 cast-value c =
     let s = c.before.before.before.before.before.before.before.before.args.s.now in
     let range =
     digit_range (get_or s c.before.before.before.before.loop.i 0)
-    (sym c.before.is_digit.ensures ∙ not_false _ c.if3.false)
+    (sym c.before.is_digit.ensures ∙ not-false _ c.if3.false)
     in
     omega (arith, range.1)
 
@@ -68,7 +68,7 @@ add-value c =
     let s = c.before.before.before.before.before.before.before.before.args.s.now in
     let range =
     digit_range (get_or s c.before.before.before.before.loop.i 0)
-    (sym c.before.is_digit.ensures ∙ not_false _ c.if3.false)
+    (sym c.before.is_digit.ensures ∙ not-false _ c.if3.false)
     in
     let small = c.before.before.before.before.loop.invariant.5.three in
     omega (arith, range.1, small)
@@ -83,7 +83,7 @@ loop-again : tie.Need-loop-preserved invariant-loop decreases-loop
 loop-again c =
     let turn = c.before.before.before.before in
     let inside = c.before.before.before.loop-test.true in
-    let yes = sym c.before.is_digit.ensures ∙ not_false _ c.if3.false in
+    let yes = sym c.before.is_digit.ensures ∙ not-false _ c.if3.false in
     let inv = turn.loop.invariant in
     let few = inv.1 in
     let range = digit_range _ yes in (
