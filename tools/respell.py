@@ -28,9 +28,14 @@ TOLD = {
     "placed-in": "placed_in_told",
     "row-at": "row_at_told",
     "taken_out": "took_out",
+    "in_use": "length_in_use",
+    "ask-core": "ask_core_told",
+    "ends-expression": "ends_expression_told",
+    "two-read": "two_read_told",
+    "withdraw-found": "withdraw_found_told",
 }
 # Names that two crates have, for two things, and no file has both.
-APART = ["ReadsAs", "ask_line", "finish_line", "withdraw_line", "is_name", "one_more", "two_fields"]
+APART = ["nothing_left", "ReadsAs", "ask_line", "finish_line", "withdraw_line", "is_name", "one_more", "two_fields"]
 
 
 def sources():
@@ -53,7 +58,8 @@ def respelled(name):
 def declared():
     tops, fields = {}, {}
     head = re.compile(r"^(?:(?:pub|abbrev|unfoldable|data|record)\s+)*(" + WORD + ")")
-    inner = re.compile(r"^  (?:pub\s+)?(" + WORD + r")(?:\s+" + WORD + r")*\s*:\s")
+    inner = re.compile(r"^  (?:(?:pub|abbrev|unfoldable|data|record)\s+)*(" + WORD + r")[^:]*\s:(?:\s|$)")
+    deep = re.compile(r"^ +(?:(?:pub|abbrev|unfoldable|data|record)\s+)*(" + WORD + r")[^:]*\s:(?:\s|$)")
     for path in sources():
         inside = None
         for line in open(path, encoding="utf-8"):
@@ -62,15 +68,21 @@ def declared():
                 if m and m.group(1) != "--":
                     (fields if inside == "record" else tops).setdefault(m.group(1), path)
                 continue
+            # what stands deeper: in a record, data or module inside another
+            m = deep.match(line)
+            if m and m.group(1) not in ("let", "in", "--") and line.startswith("    ") and inside:
+                fields.setdefault(m.group(1), path)
+                continue
             if not line.strip() or line.startswith((" ", "--")):
                 continue
             m = head.match(line)
             inside = None
-            if not m or m.group(1) in ("use", "mod", "mutual", "infix", "infixl", "infixr", "unfolding", "open"):
+            if not m or m.group(1) in ("use", "mod", "infix", "infixl", "infixr", "unfolding", "open"):
                 continue
             words = line.split(m.group(1))[0].split()
             inside = "record" if "record" in words else "data" if "data" in words else None
-            if m.group(1) == "mutual":
+            if m.group(1) in ("mutual", "module"):
+                inside = m.group(1)
                 continue
             tops.setdefault(m.group(1), path)
     return tops, fields

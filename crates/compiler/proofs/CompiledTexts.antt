@@ -56,8 +56,8 @@ table_of_text text e a =
     record { by_the_rules = refl; is_sound = rules_table_sound e limited; permits_exactly = rules_table_permits e limited }
 
 module _ (text : List ℕ) where
-  verdict-compiles : (v : Verdict) → judge text ≡ v → Compiles text (answered v)
-  verdict-compiles (judged e) is =
+  verdict_compiles : (v : Verdict) → judge text ≡ v → Compiles text (answered v)
+  verdict_compiles (judged e) is =
       let fits = ((judged_exactly text).accepts e).0 is in
       record {
         accepts = (λ _. (e, fits), λ _. refl);
@@ -66,7 +66,7 @@ module _ (text : List ℕ) where
             subst (λ (x : Expr). TableOfText a (table_of x)) ((one_verdict text).one_expression a e h fits) (table_of_text text a h);
         no_table = λ n k h. absurd ((one_verdict text).not_both e n k fits h);
       }
-  verdict-compiles (declined n k) is =
+  verdict_compiles (declined n k) is =
       let bad = ((judged_exactly text).refuses n k).0 is in
       record {
         accepts = (λ z. not_both n k (sym z), λ (e, h). absurd ((one_verdict text).not_both e n k h bad));
@@ -79,23 +79,23 @@ module _ (text : List ℕ) where
       }
 
   -- whatever fulfils the contract has this reply and this table
-  only-verdict : (v : Verdict) → judge text ≡ v → (r : Compiled) → Compiles text r → r ≡ answered v
-  only-verdict (judged e) is r c =
+  only_verdict : (v : Verdict) → judge text ≡ v → (r : Compiled) → Compiles text r → r ≡ answered v
+  only_verdict (judged e) is r c =
       let a = ((judged_exactly text).accepts e).0 is in
       ap₂ (λ (y : Reply) (t : Table). record { reply = y; table = t }) (answer_injective r.reply Accepts (c.accepts.1 (e, a)))
       (c.its_table e a).by_the_rules
-  only-verdict (declined n k) is r c =
+  only_verdict (declined n k) is r c =
       let h = ((judged_exactly text).refuses n k).0 is in
       ap₂ (λ (y : Reply) (t : Table). record { reply = y; table = t })
       (answer_injective r.reply (Refuses (record { number = n; place = k })) ((c.refuses n k).1 h)) (c.no_table n k h)
 
 pub compiled_compiles : CompiledCompiles
 unfolding compiled
-compiled_compiles text = verdict-compiles text (judge text) refl
+compiled_compiles text = verdict_compiles text (judge text) refl
 
 pub compiles_one : (text : List ℕ) (r : Compiled) → Compiles text r → r ≡ compiled text
 unfolding compiled
-compiles_one text r c = only-verdict text (judge text) refl r c
+compiles_one text r c = only_verdict text (judge text) refl r c
 
 pub compile_determined : CompileDetermined
 compile_determined text r r' c c' = compiles_one text r c ∙ sym (compiles_one text r' c')

@@ -16,45 +16,45 @@ use Rattle.compiler.specs.Reading.{is_end, is_text_end, refused_at, concluded, e
 use Rattle.compiler.specs.declared.readers.Reading.{Reading}
 use Rattle.compiler.specs.declared.replies.Compiled.{Compiled}
 use Rattle.compiler.specs.declared.replies.Reply.TheVariants.{Accepted as Accepts}
-use Rattle.compiler.proofs.Closing.{is-behind, used-behind, start-behind}
+use Rattle.compiler.proofs.Closing.{is_behind, used_behind, start_behind}
 use Rattle.compiler.proofs.Tails.{slice, slice_drops, slice_size}
 
 module _ (s : List ℕ) (k : ℕ) (p : Part) (u : Read) (told : u ≡ next_token s) where
-  pub concluded-accepts : u.token ≡ TextEnd → (t : Table) → t ≡ completed p → record { reply = Accepts; table = t } ≡ concluded s k p
+  pub concluded_accepts : u.token ≡ TextEnd → (t : Table) → t ≡ completed p → record { reply = Accepts; table = t } ≡ concluded s k p
   unfolding concluded
-  concluded-accepts e t is = rw (is, ← told, e) refl
+  concluded_accepts e t is = rw (is, ← told, e) refl
 
-  pub concluded-refuses : is_text_end u.token ≡ false → (r : Compiled) → r ≡ refused_at (unfit u.token) (k + u.start) → r ≡
+  pub concluded_refuses : is_text_end u.token ≡ false → (r : Compiled) → r ≡ refused_at (unfit u.token) (k + u.start) → r ≡
       concluded s k p
   unfolding concluded
-  concluded-refuses e r is = rw (is, ← told, e) refl
+  concluded_refuses e r is = rw (is, ← told, e) refl
 
 module _ (text : List ℕ) (e : Reading) where
-  pub ended-inside : (e.number ≡ 0 → ⊥) → (r : Compiled) → r ≡ refused_at e.number (length text - e.left) → r ≡ ended text e
+  pub ended_inside : (e.number ≡ 0 → ⊥) → (r : Compiled) → r ≡ refused_at e.number (length text - e.left) → r ≡ ended text e
   unfolding ended
-  ended-inside Some-number r is = rw (is, ne_eqb _ _ Some-number) refl
+  ended_inside Some-number r is = rw (is, ne_eqb _ _ Some-number) refl
 
   module _ (z : e.number ≡ 0) (u : Read) (told : u ≡ next_token (slice text (length text - e.left))) where
     pub end_fits : e.left ≤ length text → length text - e.left + u.used ≤ length text
-    end_fits w = omega (arith, used-behind text e u told w)
+    end_fits w = omega (arith, used_behind text e u told w)
 
-    pub end-starts : e.left ≤ length text → length text - e.left + u.start ≤ length text
-    end-starts w = omega (arith, start-behind text e u told w)
+    pub end_starts : e.left ≤ length text → length text - e.left + u.start ≤ length text
+    end_starts w = omega (arith, start_behind text e u told w)
 
     -- all that is left, and the place where it starts, make the text
-    pub rest-fits : e.left ≤ length text → length text - e.left + u.used + length (slice text (length text - e.left +
+    pub rest_fits : e.left ≤ length text → length text - e.left + u.used + length (slice text (length text - e.left +
         u.used)) ≤ length text
-    rest-fits w = omega (arith, used-behind text e u told w, slice_size text (length text - e.left + u.used))
+    rest_fits w = omega (arith, used_behind text e u told w, slice_size text (length text - e.left + u.used))
 
-    pub ended-ends : u.token ≡ End → (r : Compiled)
+    pub ended_ends : u.token ≡ End → (r : Compiled)
         → r ≡ concluded (slice text (length text - e.left + u.used)) (length text - e.left + u.used) e.part → r ≡ ended text e
     unfolding ended
-    ended-ends t r is =
+    ended_ends t r is =
         is ∙ ap (λ (v : List ℕ). concluded v (length text - e.left + u.used) e.part) (slice_drops text (length text -
         e.left + u.used))
-        ∙ rw (eq-eqb _ _ z, ← is-behind text e u told, t) refl
+        ∙ rw (eq-eqb _ _ z, ← is_behind text e u told, t) refl
 
-    pub ended-refuses : is_end u.token ≡ false → (r : Compiled) → r ≡ refused_at (unfit u.token) (length text - e.left +
+    pub ended_refuses : is_end u.token ≡ false → (r : Compiled) → r ≡ refused_at (unfit u.token) (length text - e.left +
         u.start) → r ≡ ended text e
     unfolding ended
-    ended-refuses t r is = rw (is, eq-eqb _ _ z, ← is-behind text e u told, t) refl
+    ended_refuses t r is = rw (is, eq-eqb _ _ z, ← is_behind text e u told, t) refl

@@ -9,14 +9,14 @@ use lib.Seq.{drop-drop}
 use Rattle.meaning.specs.Names.{Name}
 use Rattle.text.specs.Tokens.{next_token}
 use Rattle.text.specs.declared.tokens.Token.{Token}
-use Rattle.text.proofs.Reading.{start-within-used, used-within-text, token-moves-on}
+use Rattle.text.proofs.Reading.{start_within_used, used_within_text, token_moves_on}
 use Rattle.grammar.specs.Symbols.{Symbol}
 use Rattle.grammar.specs.Machine.{State, step_to, depth_of, limit_at, names_on, stepped}
 use Rattle.grammar.specs.Machine.Verdict.{refused}
 use Rattle.compiler.specs.Reading.{Tail, verdict, behind, is_text_end, unfit}
 use Rattle.compiler.specs.declared.readers.Reading.{Reading}
-use Rattle.compiler.proofs.Tails.{tail-drop}
-use Rattle.compiler.proofs.Verdicts.{Is, stuck_at, verdict-symbol, verdict-stuck}
+use Rattle.compiler.proofs.Tails.{tail_drop}
+use Rattle.compiler.proofs.Verdicts.{Is, stuck_at, verdict_symbol, verdict_stuck}
 
 -- what stands behind a reading of a part of s stands behind it in s
 pub behind_part : (s : List ℕ) (j : ℕ) (r : Reading) → j ≤ length s → r.left ≤ length s - j → behind (drop j s) r ≡ behind s r
@@ -29,38 +29,38 @@ module _ (s : List ℕ) (r : Reading) (w : r.left ≤ length s) where
   unfoldable pub ending : List ℕ
   ending = drop (length s - r.left) s
 
-  pub ending-size : length ending ≡ r.left
+  pub ending_size : length ending ≡ r.left
   unfolding ending
-  ending-size = omega (arith, length-drop (length s - r.left) s)
+  ending_size = omega (arith, length-drop (length s - r.left) s)
 
-  pub ending-tail : (text : List ℕ) → Tail text s → Tail text ending
+  pub ending_tail : (text : List ℕ) → Tail text s → Tail text ending
   unfolding ending
-  ending-tail text h = tail-drop text s h (length s - r.left) (omega arith)
+  ending_tail text h = tail_drop text s h (length s - r.left) (omega arith)
 
   -- the token there lies within what is left
-  pub behind-fits : (behind s r).used ≤ r.left
+  pub behind_fits : (behind s r).used ≤ r.left
   unfolding ending
-  behind-fits = omega (arith, ending-size, used-within-text ending)
+  behind_fits = omega (arith, ending_size, used_within_text ending)
 
-  pub behind-starts : (behind s r).start ≤ r.left
+  pub behind_starts : (behind s r).start ≤ r.left
   unfolding ending
-  behind-starts = omega (arith, behind-fits, start-within-used ending)
+  behind_starts = omega (arith, behind_fits, start_within_used ending)
 
   module _ (text : List ℕ) (h : Tail text s) (st : State) (ns : List Name) where
     -- a symbol is stepped over, or refused by 4 or by a limit
-    pub behind-symbol : (T : Token) (t : Symbol) → (behind s r).token ≡ T → Is T (drop (behind s r).start (drop (length s - r.left) s)) t
+    pub behind_symbol : (T : Token) (t : Symbol) → (behind s r).token ≡ T → Is T (drop (behind s r).start (drop (length s - r.left) s)) t
         → verdict text r.left st ns
         ≡ stepped (limit_at (depth_of st) ns t) (length text - (r.left - (behind s r).start)) (step_to st t)
         (λ st'. verdict text (r.left - (behind s r).used) st' (names_on ns t))
     unfolding ending
-    behind-symbol T t e is = rw ending-size at (verdict-symbol text ending (ending-tail text h) T t e is st ns)
+    behind_symbol T t e is = rw ending_size at (verdict_symbol text ending (ending_tail text h) T t e is st ns)
 
     -- where the machine is stuck, the refusal
-    pub behind-stuck : stuck_at st (behind s r).token (drop (behind s r).start (drop (length s - r.left) s)) ≡ true
+    pub behind_stuck : stuck_at st (behind s r).token (drop (behind s r).start (drop (length s - r.left) s)) ≡ true
         → verdict text r.left st ns ≡ refused (unfit (behind s r).token) (length text - (r.left - (behind s r).start))
     unfolding ending
-    behind-stuck stuck = rw ending-size at (verdict-stuck text ending (ending-tail text h) st ns stuck)
+    behind_stuck stuck = rw ending_size at (verdict_stuck text ending (ending_tail text h) st ns stuck)
 
 -- any token but the end of the text uses up some of it
 pub moves : (s : List ℕ) (T : Token) → (next_token s).token ≡ T → is_text_end T ≡ false → (next_token s).start < (next_token s).used
-moves s T e other = token-moves-on s (λ z. true≢false (sym (ap is_text_end z) ∙ ap is_text_end e ∙ other))
+moves s T e other = token_moves_on s (λ z. true≢false (sym (ap is_text_end z) ∙ ap is_text_end e ∙ other))

@@ -12,7 +12,7 @@ use Rattle.compiler.specs.declared.readers.Onward.TheVariants.{Ends}
 use Rattle.compiler.specs.declared.readers.Reading.{Reading}
 use Rattle.compiler.proofs.Tails.{slice}
 use Rattle.compiler.proofs.Growing as growing
-use Rattle.compiler.proofs.Joining.{names-or, or-joined}
+use Rattle.compiler.proofs.Joining.{names_or, or_joined}
 use Rattle.compiler.proofs.Onwards.{GoesOn, no_sequence_follows}
 use Rattle.compiler.proofs.Sequences.{wanted_run, run_read, in_order}
 
@@ -32,43 +32,43 @@ turn u b = some (either_way b)
 
 module _ (s : List ℕ) (d : ℕ) (t : Table) where
   -- a sequence is an expression
-  pub expression-starts : (q : Reading) → SequenceRead ends_sequence s d t q → ExpressionRead ends_sequence s d t q
-  expression-starts q given =
+  pub expression_starts : (q : Reading) → SequenceRead ends_sequence s d t q → ExpressionRead ends_sequence s d t q
+  expression_starts q given =
       growing.starts wanted_sum sum_read either_way s d t wanted_run run_read in_order (λ u. none) (λ b. (
         on_sum none b.0,
         b.1,
       )) ends_sequence q given
       (λ a ks. refl) (λ a c ks. refl) (λ c. refl)
 
-  pub expression-refused : (r : Reading) → ExpressionRead ends_sequence s d t r → (r.number ≡ 0 → ⊥) → ExpressionRead ends_expression s d t r
-  expression-refused r = growing.still-refused wanted_sum sum_read either_way s d t ends_sequence ends_expression r
+  pub expression_refused : (r : Reading) → ExpressionRead ends_sequence s d t r → (r.number ≡ 0 → ⊥) → ExpressionRead ends_expression s d t r
+  expression_refused r = growing.still-refused wanted_sum sum_read either_way s d t ends_sequence ends_expression r
 
   module _ (e : Reading) (given : ExpressionRead ends_sequence s d t e) (z : e.number ≡ 0) where
-    pub expression-ends : sequence_from s e.left ≡ Ends → ExpressionRead ends_expression s d t e
-    expression-ends is =
+    pub expression_ends : sequence_from s e.left ≡ Ends → ExpressionRead ends_expression s d t e
+    expression_ends is =
         growing.ends_there wanted_sum sum_read either_way s d t ends_sequence e given z ends_expression (no_sequence_follows
         (behind s e).token _ _ is)
 
     -- another sequence follows, at byte j
     module _ (j : ℕ) (on : GoesOn upward s e j) (t' : Table) (so-far-is : t' ≡ e.part.table) (q : Reading)
         (told : SequenceRead ends_sequence (slice s j) d t' q) where
-      pub sequence-is-refused : (q.number ≡ 0 → ⊥) → ExpressionRead ends_expression s d t q
-      sequence-is-refused =
-          growing.next-refused wanted_sum sum_read either_way s d t ends_sequence e given z wanted_run run_read in_order
+      pub sequence_is_refused : (q.number ≡ 0 → ⊥) → ExpressionRead ends_expression s d t q
+      sequence_is_refused =
+          growing.next_refused wanted_sum sum_read either_way s d t ends_sequence e given z wanted_run run_read in_order
           turn j on.fits on.less (λ text h u b. on.on text h b.0 b.1)
           t' so-far-is q ends_sequence told ends_expression
 
-      pub sequence-shorter : q.number ≡ 0 → q.left < e.left
-      sequence-shorter =
-          growing.next-shorter wanted_sum sum_read either_way s d t ends_sequence e given z wanted_run run_read in_order
+      pub sequence_shorter : q.number ≡ 0 → q.left < e.left
+      sequence_shorter =
+          growing.next_shorter wanted_sum sum_read either_way s d t ends_sequence e given z wanted_run run_read in_order
           turn j on.fits on.less (λ text h u b. on.on text h b.0 b.1)
           t' so-far-is q ends_sequence told
 
-      pub expression-grows : q.number ≡ 0 → (r : Reading) → r ≡ or_read e q → ExpressionRead ends_sequence s d t r
-      expression-grows y r joined =
+      pub expression_grows : q.number ≡ 0 → (r : Reading) → r ≡ or_read e q → ExpressionRead ends_sequence s d t r
+      expression_grows y r joined =
           growing.grows wanted_sum sum_read either_way s d t ends_sequence e given z wanted_run run_read in_order
           turn j on.fits on.less (λ text h u b. on.on text h b.0 b.1)
           t' so-far-is q ends_sequence told (λ b c. (on_sum (some (either_way b)) c.0, c.1)) (λ a b c ks. refl)
-          (λ b c ns. names-or (either_way b) (in_order c) ns) y r
+          (λ b c ns. names_or (either_way b) (in_order c) ns) y r
           (ap (λ (x : Reading). x.number) joined) (ap (λ (x : Reading). x.left) joined)
-          (λ ns rs b c is_b is_c. ap (λ (x : Reading). x.part) joined ∙ or-joined e (either_way b) ns rs is_b q (in_order c) is_c)
+          (λ ns rs b c is_b is_c. ap (λ (x : Reading). x.part) joined ∙ or_joined e (either_way b) ns rs is_b q (in_order c) is_c)

@@ -8,7 +8,7 @@ use lib.ListN.{length, take, drop}
 use Rattle.text.specs.Tokens.{next_token}
 use Rattle.text.specs.declared.tokens.Token.TheVariants.{Open, Name as Named}
 use Rattle.text.specs.declared.tokens.Read.{Read}
-use Rattle.text.proofs.Reading.{start-within-used, used-within-text, name-reaches}
+use Rattle.text.proofs.Reading.{start_within_used, used_within_text, name_reaches}
 use Rattle.table.specs.declared.cells.Table.{Table}
 use Rattle.parts.specs.Parts.{placed}
 use Rattle.parts.specs.declared.placing.Placed.{Placed}
@@ -16,23 +16,23 @@ use Rattle.compiler.specs.Reading.{begins, StarryRead, FactorRead, ExpressionRea
 use Rattle.compiler.specs.declared.readers.Reading.{Reading}
 use Rattle.compiler.proofs.Tails.{slice, slice_size}
 use Rattle.compiler.proofs.Endings.{moves}
-use Rattle.compiler.proofs.Factors.{name_at, factor-other, factor-deep, factor-limit, factor-name}
-use Rattle.compiler.proofs.Parentheses.{factor-open, closed_left}
+use Rattle.compiler.proofs.Factors.{name_at, factor_other, factor_deep, factor_limit, factor_name}
+use Rattle.compiler.proofs.Parentheses.{factor_open, closed_left}
 
 module _ (s : List ℕ) (u : Read) (told : u ≡ next_token s) where
   pub start_fits : u.start ≤ length s
-  start_fits = rw told (omega (arith, start-within-used s, used-within-text s))
+  start_fits = rw told (omega (arith, start_within_used s, used_within_text s))
 
   pub used_fits : u.used ≤ length s
-  used_fits = rw told (used-within-text s)
+  used_fits = rw told (used_within_text s)
 
-  pub name-fits : (m : ℕ) → u.token ≡ Named m → u.start + m ≤ length s
-  name-fits m e =
-      let reach = (name-reaches s m (ap (λ (v : Read). v.token) (sym told) ∙ e)).reach in
-      rw told (omega (arith, reach, used-within-text s))
+  pub name_fits : (m : ℕ) → u.token ≡ Named m → u.start + m ≤ length s
+  name_fits m e =
+      let reach = (name_reaches s m (ap (λ (v : Read). v.token) (sym told) ∙ e)).reach in
+      rw told (omega (arith, reach, used_within_text s))
 
-  pub open-used : u.token ≡ Open → 0 < u.used
-  open-used e =
+  pub open_used : u.token ≡ Open → 0 < u.used
+  open_used e =
       let less = moves s Open (ap (λ (v : Read). v.token) (sym told) ∙ e) refl in
       rw told (omega (arith, less))
 
@@ -41,16 +41,16 @@ module _ (s : List ℕ) (u : Read) (told : u ≡ next_token s) where
     reads_other =
         subst (λ (v : Read). begins v.token ≡ false → r ≡ halted (unfit v.token) (length s - v.start) t → FactorRead s d
         t r) (sym told)
-        (factor-other s d t r)
+        (factor_other s d t r)
 
-    pub reads-deep : u.token ≡ Open → 16 ≤ d → r ≡ halted 5 (length s - u.start) t → FactorRead s d t r
-    reads-deep =
+    pub reads_deep : u.token ≡ Open → 16 ≤ d → r ≡ halted 5 (length s - u.start) t → FactorRead s d t r
+    reads_deep =
         subst (λ (v : Read). v.token ≡ Open → 16 ≤ d → r ≡ halted 5 (length s - v.start) t → FactorRead s d t r) (sym told)
-        (factor-deep s d t r)
+        (factor_deep s d t r)
 
     -- the bytes from the token's start on, up to its end
-    name-slice : (m : ℕ) → take (u.start + m - u.start) (drop u.start s) ≡ name_at s m
-    name-slice m =
+    name_slice : (m : ℕ) → take (u.start + m - u.start) (drop u.start s) ≡ name_at s m
+    name_slice m =
         let many : u.start + m - u.start ≡ m = omega arith in
         rw (many, told) refl
 
@@ -58,34 +58,34 @@ module _ (s : List ℕ) (u : Read) (told : u ≡ next_token s) where
       is_name : (next_token s).token ≡ Named m
       is_name = ap (λ (v : Read). v.token) (sym told) ∙ e
 
-      is-placed : p ≡ placed t (name_at s m)
-      is-placed = is ∙ ap (placed t) (name-slice m)
+      is_placed : p ≡ placed t (name_at s m)
+      is_placed = is ∙ ap (placed t) (name_slice m)
 
-      pub reads-limit : (p.number ≡ 0 → ⊥) → r ≡ halted p.number (length s - u.start) t → FactorRead s d t r
-      reads-limit =
+      pub reads_limit : (p.number ≡ 0 → ⊥) → r ≡ halted p.number (length s - u.start) t → FactorRead s d t r
+      reads_limit =
           subst (λ (v : Read). (p.number ≡ 0 → ⊥) → r ≡ halted p.number (length s - v.start) t → FactorRead s d t r) (sym told)
-          (factor-limit s d t m is_name p is-placed r)
+          (factor_limit s d t m is_name p is_placed r)
 
-      pub reads-name : p.number ≡ 0 → StarryRead s (record { number = 0; left = length s - u.used; part = p.part }) r → FactorRead s d t r
-      reads-name =
+      pub reads_name : p.number ≡ 0 → StarryRead s (record { number = 0; left = length s - u.used; part = p.part }) r → FactorRead s d t r
+      reads_name =
           subst (λ (v : Read). p.number ≡ 0 → StarryRead s (record { number = 0; left = length s - v.used; part = p.part }) r →
           FactorRead s d t r)
-          (sym told) (factor-name s d t m is_name p is-placed r)
+          (sym told) (factor_name s d t m is_name p is_placed r)
 
-    pub reads-open : u.token ≡ Open → d < 16 → (e : Reading)
+    pub reads_open : u.token ≡ Open → d < 16 → (e : Reading)
         → ExpressionRead ends_expression (slice s u.used) (d + 1) t e → (q : Reading) → q ≡ closed s e → StarryRead s q r → FactorRead s d t r
-    reads-open =
+    reads_open =
         subst
         (λ (v : Read).
         v.token ≡ Open → d < 16 → (e : Reading) → ExpressionRead ends_expression (slice s v.used) (d + 1) t e → (q : Reading)
         → q ≡ closed s e → StarryRead s q r → FactorRead s d t r)
         (sym told)
-        (λ is_open shallow e inner q is_closed starry. factor-open s d t is_open shallow e inner q r is_closed starry)
+        (λ is_open shallow e inner q is_closed starry. factor_open s d t is_open shallow e inner q r is_closed starry)
 
   -- the expression inside, and what is closed behind it, lie within s
-  pub inside-fits : (d : ℕ) (t : Table) (e : Reading) → ExpressionRead ends_expression (slice s u.used) d t e → e.left ≤ length s
-  inside-fits d t e inner = omega (arith, inner.within, slice_size s u.used)
+  pub inside_fits : (d : ℕ) (t : Table) (e : Reading) → ExpressionRead ends_expression (slice s u.used) d t e → e.left ≤ length s
+  inside_fits d t e inner = omega (arith, inner.within, slice_size s u.used)
 
-  pub closed-fits : (d : ℕ) (t : Table) (e q : Reading) → ExpressionRead ends_expression (slice s u.used) d t e → q ≡ closed s
+  pub closed_fits : (d : ℕ) (t : Table) (e q : Reading) → ExpressionRead ends_expression (slice s u.used) d t e → q ≡ closed s
       e → q.left ≤ length s
-  closed-fits d t e q inner is = omega (arith, inside-fits d t e inner, closed_left s e, ap (λ (x : Reading). x.left) is)
+  closed_fits d t e q inner is = omega (arith, inside_fits d t e inner, closed_left s e, ap (λ (x : Reading). x.left) is)

@@ -15,7 +15,7 @@ use Rattle.meaning.specs.Words.Expr.{name as name_of}
 use Rattle.text.specs.Tokens.{next_token}
 use Rattle.text.specs.declared.tokens.Token.{Token}
 use Rattle.text.specs.declared.tokens.Token.TheVariants.{Semicolon, Plus, Star, Open, Close, Path, End, Name as Named, TextEnd, Bad, Long}
-use Rattle.text.proofs.Reading.{Named as Named-read, used-within-text, name-reaches}
+use Rattle.text.proofs.Reading.{Named as Named-read, used_within_text, name_reaches}
 use Rattle.grammar.specs.Symbols.Symbol.{opening, name}
 use Rattle.grammar.specs.Machine.{Left, Verdict, step_to, want_step, have_step, depth_of, limit_at, names_on, stepped, limited, nothing_left}
 use Rattle.grammar.specs.Machine.State.{wanting, having}
@@ -25,10 +25,10 @@ use Rattle.parts.specs.Parts.{placed}
 use Rattle.parts.specs.Progress.{noted, Fine, part_of, star_times}
 use Rattle.parts.specs.declared.placing.Placed.{Placed}
 use Rattle.parts.proofs.Laws.{part_stars, names_starred}
-use Rattle.parts.proofs.NameParts.{name_limit, placed-number, placed-part, placed-fine}
+use Rattle.parts.proofs.NameParts.{name_limit, placed_number, placed_part, placed_fine}
 use Rattle.compiler.specs.Reading.{begins, Tail, StarryRead, FactorRead, verdict, ends_expression, is_close, halted, unfit}
 use Rattle.compiler.specs.declared.readers.Reading.{Reading}
-use Rattle.compiler.proofs.Verdicts.{is_opening, is_name, place, stuck_at, verdict-symbol, verdict-stuck}
+use Rattle.compiler.proofs.Verdicts.{is_opening, is_name, place, stuck_at, verdict_symbol, verdict_stuck}
 
 -- no token is refused by 0
 pub unfit_some : (T : Token) → unfit T ≡ 0 → ⊥
@@ -97,16 +97,16 @@ limited_goes (suc n) k v h = absurd (omega arith)
 
 module _ (s : List ℕ) (d : ℕ) (t : Table) where
   -- a token that begins no factor
-  pub factor-other : (r : Reading) → begins (next_token s).token ≡ false
+  pub factor_other : (r : Reading) → begins (next_token s).token ≡ false
       → r ≡ halted (unfit (next_token s).token) (length s - (next_token s).start) t → FactorRead s d t r
-  factor-other r other is =
+  factor_other r other is =
       let u = next_token s in
       subst (FactorRead s d t) (sym is)
       record {
         within = omega arith;
         fewer = λ z. absurd (unfit_some u.token z);
         outcome = λ ns rs _ _. inr
-            (unfit_some u.token, λ l text ks h _. verdict-stuck text s h (wanting l ks) ns (wanting_stuck l ks u.token _ other));
+            (unfit_some u.token, λ l text ks h _. verdict_stuck text s h (wanting l ks) ns (wanting_stuck l ks u.token _ other));
       }
 
   -- a `(`: the machine steps inside, or refuses it by 5
@@ -115,11 +115,11 @@ module _ (s : List ℕ) (d : ℕ) (t : Table) where
       ≡ limited (cond (leb 16 (length ks)) 5 0) (place text s)
       (verdict text (length s - (next_token s).used) (wanting nothing_left (l ∷ ks)) ns)
   unfolding step_to want_step depth_of limit_at names_on stepped
-  opened text ks h e l ns = verdict-symbol text s h Open opening e (is_opening _) (wanting l ks) ns
+  opened text ks h e l ns = verdict_symbol text s h Open opening e (is_opening _) (wanting l ks) ns
 
-  pub factor-deep : (r : Reading) → (next_token s).token ≡ Open → 16 ≤ d → r ≡ halted 5 (length s - (next_token s).start) t → FactorRead s d t r
+  pub factor_deep : (r : Reading) → (next_token s).token ≡ Open → 16 ≤ d → r ≡ halted 5 (length s - (next_token s).start) t → FactorRead s d t r
   unfolding limited
-  factor-deep r e deep is =
+  factor_deep r e deep is =
       subst (FactorRead s d t) (sym is)
       record {
         within = omega arith;
@@ -134,26 +134,26 @@ module _ (s : List ℕ) (d : ℕ) (t : Table) where
       ≡ limited (name_limit ns (name_at s m)) (place text s)
       (verdict text (length s - (next_token s).used) (having l (name_of (name_at s m)) ks) (ns ++ name_at s m ∷ []))
   unfolding step_to want_step depth_of limit_at names_on stepped
-  named m text ks h e l ns = verdict-symbol text s h (Named m) (name (name_at s m)) e (is_name m _) (wanting l ks) ns
+  named m text ks h e l ns = verdict_symbol text s h (Named m) (name (name_at s m)) e (is_name m _) (wanting l ks) ns
 
   module _ (m : ℕ) (e : (next_token s).token ≡ Named m) where
-    name-reach : Named-read (next_token s) m
-    name-reach = name-reaches s m e
+    name_reach : Named-read (next_token s) m
+    name_reach = name_reaches s m e
 
-    name-short : length (name_at s m) ≤ 16
-    name-short = omega (arith, name-reach.short, length-take m (drop (next_token s).start s))
+    name_short : length (name_at s m) ≤ 16
+    name_short = omega (arith, name_reach.short, length-take m (drop (next_token s).start s))
 
-    name-some : (next_token s).start < (next_token s).used
-    name-some = omega (arith, name-reach.some, name-reach.reach)
+    name_some : (next_token s).start < (next_token s).used
+    name_some = omega (arith, name_reach.some, name_reach.reach)
 
     module _ (p : Placed) (told : p ≡ placed t (name_at s m)) where
       -- the number is that of the limit
       number_is : (ns : List Name) (rs : List ℕ) → t ≡ noted ns rs → Fine ns → p.number ≡ name_limit ns (name_at s m)
-      number_is ns rs is fine = rw (told, is) (placed-number ns rs (name_at s m) fine name-short)
+      number_is ns rs is fine = rw (told, is) (placed_number ns rs (name_at s m) fine name_short)
 
       -- a name that passes a limit
-      pub factor-limit : (r : Reading) → (p.number ≡ 0 → ⊥) → r ≡ halted p.number (length s - (next_token s).start) t → FactorRead s d t r
-      factor-limit r some is =
+      pub factor_limit : (r : Reading) → (p.number ≡ 0 → ⊥) → r ≡ halted p.number (length s - (next_token s).start) t → FactorRead s d t r
+      factor_limit r some is =
           subst (FactorRead s d t) (sym is)
           record {
             within = omega arith;
@@ -169,26 +169,26 @@ module _ (s : List ℕ) (d : ℕ) (t : Table) where
           }
 
       -- a name, with the stars behind it
-      pub factor-name : (r : Reading) → p.number ≡ 0
+      pub factor_name : (r : Reading) → p.number ≡ 0
           → StarryRead s (record { number = 0; left = length s - (next_token s).used; part = p.part }) r → FactorRead s d t r
-      factor-name r z starry =
+      factor_name r z starry =
           record {
             within = omega (arith, starry.within);
-            fewer = λ _. omega (arith, starry.within, name-some, used-within-text s);
+            fewer = λ _. omega (arith, starry.within, name_some, used_within_text s);
             outcome = λ ns rs same fine.
                 let limit : name_limit ns (name_at s m) ≡ 0 = sym (number_is ns rs same fine) ∙ z in
                 let f = star_times starry.times (name_of (name_at s m)) in
                 let all : ns ++ names f ≡ ns ++ name_at s m ∷ [] = ap (λ (w : List Name). ns ++ w) (names_starred starry.times
                 (name_of (name_at s m)) ∙ name_alone (name_at s m)) in
-                let whole : p.part ≡ part_of (name_of (name_at s m)) ns rs = rw (told, same) (placed-part ns rs (name_at s m) fine
-                name-short limit) in
+                let whole : p.part ≡ part_of (name_of (name_at s m)) ns rs = rw (told, same) (placed_part ns rs (name_at s m) fine
+                name_short limit) in
                 inl (
                   starry.number_stays,
                   (
                     f,
                     record {
                       part = starry.part_starred refl ∙ rw whole (part_stars starry.times (name_of (name_at s m)) ns rs);
-                      fine = subst Fine (sym all) (placed-fine ns rs (name_at s m) fine name-short limit);
+                      fine = subst Fine (sym all) (placed_fine ns rs (name_at s m) fine name_short limit);
                       ended = starry.ends refl;
                     },
                     λ l text ks h k.

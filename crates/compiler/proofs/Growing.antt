@@ -18,16 +18,16 @@ use Rattle.parts.specs.Progress.{noted, Fine, part_of, rows_after}
 use Rattle.parts.proofs.Laws.{part_behind}
 use Rattle.compiler.specs.Reading.{Tail, Goes, Stops, ReadsAs, PartRead, EitherWay, verdict, behind}
 use Rattle.compiler.specs.declared.readers.Reading.{Reading}
-use Rattle.compiler.proofs.Tails.{slice, slice_drops, tail-drop}
+use Rattle.compiler.proofs.Tails.{slice, slice_drops, tail_drop}
 use Rattle.compiler.proofs.Endings.{behind_part}
-use Rattle.compiler.proofs.Joining.{table-so-far}
+use Rattle.compiler.proofs.Joining.{table_so_far}
 
 -- the kind that grows
 module _ {A B : Type 0} (from : A → List Left → State) (to : A → B → List Left → State) (whole : B → Expr) (s : List ℕ) (d : ℕ) (t : Table) where
   -- a refusal is one, whatever may stand behind a part
-  pub still-refused : (ends ends' : Token → Bool) (r : Reading) → ReadsAs from to whole ends s d t r → (r.number ≡ 0 → ⊥)
+  pub still_refused : (ends ends' : Token → Bool) (r : Reading) → ReadsAs from to whole ends s d t r → (r.number ≡ 0 → ⊥)
       → ReadsAs from to whole ends' s d t r
-  still-refused ends ends' r given Some-number =
+  still_refused ends ends' r given Some-number =
       record { within = given.within; fewer = given.fewer; outcome = λ ns rs same fine. by ns (given.outcome ns rs same fine) }
     where
       by : {W X : Type 0} (ns : List Name) → EitherWay r W ((a : A) → Stops s r d (from a) ns)
@@ -67,18 +67,18 @@ module _ {A B : Type 0} (from : A → List Left → State) (to : A → B → Lis
 
   -- q was read so far
   module _ (ends : Token → Bool) (q : Reading) (given : ReadsAs from to whole ends s d t q) (z : q.number ≡ 0) where
-    record So-far (ns : List Name) (rs : List ℕ) : Type 0 where
+    record SoFar (ns : List Name) (rs : List ℕ) : Type 0 where
       parts : B
       read : PartRead s q ends ns rs (whole parts)
       goes : (a : A) → Goes s q.left d (from a) ns (to a parts) (ns ++ names (whole parts))
 
-    so_far : (ns : List Name) (rs : List ℕ) → t ≡ noted ns rs → Fine ns → So-far ns rs
+    so_far : (ns : List Name) (rs : List ℕ) → t ≡ noted ns rs → Fine ns → SoFar ns rs
     so_far ns rs same fine = by (given.outcome ns rs same fine)
       where
         by : {S : Type 0}
             → EitherWay q ((b : B) × PartRead s q ends ns rs (whole b) × ((a : A) → Goes s q.left d (from a) ns (to a b)
             (ns ++ names (whole b)))) S
-            → So-far ns rs
+            → SoFar ns rs
         by (inl (y, (b, read, goes))) = record { parts = b; read = read; goes = goes }
         by (inr (n, stops)) = absurd (n z)
 
@@ -107,51 +107,51 @@ module _ {A B : Type 0} (from : A → List Left → State) (to : A → B → Lis
           subst (λ (v : List ℕ). ReadsAs from' to' whole' ends' v d q.part.table f) (slice_drops s j)
           (subst (λ (x : Table). ReadsAs from' to' whole' ends' (slice s j) d x f) so-far-is told)
 
-      within-next : f.left ≤ length s - j
-      within-next = omega (arith, next.within, length-drop j s)
+      within_next : f.left ≤ length s - j
+      within_next = omega (arith, next.within, length-drop j s)
 
       -- the machine comes to where f has to stand
-      reaches : (ns : List Name) (rs : List ℕ) (here : So-far ns rs) (a : A) (text : List ℕ) (ks : List Left) → Tail text s → length ks ≡ d
+      reaches : (ns : List Name) (rs : List ℕ) (here : SoFar ns rs) (a : A) (text : List ℕ) (ks : List Left) → Tail text s → length ks ≡ d
           → verdict text (length s) (from a ks) ns
           ≡ verdict text (length (drop j s)) (from' (turn a here.parts) ks) (ns ++ names (whole here.parts))
       reaches ns rs here a text ks h k =
           here.goes a text ks h k ∙ on text h a here.parts ks (ns ++ names (whole here.parts))
           ∙ ap (λ (i : ℕ). verdict text i (from' (turn a here.parts) ks) (ns ++ names (whole here.parts))) (sym (length-drop j s))
 
-      next-outcome : (ns : List Name) (rs : List ℕ) (here : So-far ns rs)
+      next_outcome : (ns : List Name) (rs : List ℕ) (here : SoFar ns rs)
           → EitherWay f
           ((c : B') × PartRead (drop j s) f ends' (ns ++ names (whole here.parts)) (rows_after (whole here.parts)
           (length ns) rs) (whole' c)
           × ((a : A') → Goes (drop j s) f.left d (from' a) (ns ++ names (whole here.parts)) (to' a c) ((ns ++ names
           (whole here.parts)) ++ names (whole' c))))
           ((a : A') → Stops (drop j s) f d (from' a) (ns ++ names (whole here.parts)))
-      next-outcome ns rs here =
+      next_outcome ns rs here =
           let e = whole here.parts in
-          next.outcome (ns ++ names e) (rows_after e (length ns) rs) (table-so-far q e ns rs here.read.part) here.read.fine
+          next.outcome (ns ++ names e) (rows_after e (length ns) rs) (table_so_far q e ns rs here.read.part) here.read.fine
 
       -- f is refused, and so is the whole
-      pub next-refused : (ends'' : Token → Bool) → (f.number ≡ 0 → ⊥) → ReadsAs from to whole ends'' s d t f
-      next-refused ends'' Some-number =
+      pub next_refused : (ends'' : Token → Bool) → (f.number ≡ 0 → ⊥) → ReadsAs from to whole ends'' s d t f
+      next_refused ends'' Some-number =
           record {
-            within = omega (arith, within-next);
+            within = omega (arith, within_next);
             fewer = λ y. absurd (Some-number y);
-            outcome = λ ns rs same fine. let here = so_far ns rs same fine in by ns rs here (next-outcome ns rs here);
+            outcome = λ ns rs same fine. let here = so_far ns rs same fine in by ns rs here (next_outcome ns rs here);
           }
         where
-          by : {W X : Type 0} (ns : List Name) (rs : List ℕ) (here : So-far ns rs)
+          by : {W X : Type 0} (ns : List Name) (rs : List ℕ) (here : SoFar ns rs)
               → EitherWay f W ((a : A') → Stops (drop j s) f d (from' a) (ns ++ names (whole here.parts)))
               → EitherWay f X ((a : A) → Stops s f d (from a) ns)
           by ns rs here (inl (y, went)) = absurd (Some-number y)
           by ns rs here (inr (n, stops)) =
               inr (
                 n,
-                λ a text ks h k. reaches ns rs here a text ks h k ∙ stops (turn a here.parts) text ks (tail-drop text s
+                λ a text ks h k. reaches ns rs here a text ks h k ∙ stops (turn a here.parts) text ks (tail_drop text s
                     h j fits) k,
               )
 
       -- f is read, and less is left
-      pub next-shorter : f.number ≡ 0 → f.left < q.left
-      next-shorter y = omega (arith, next.fewer y, length-drop j s, less)
+      pub next_shorter : f.number ≡ 0 → f.left < q.left
+      next_shorter y = omega (arith, next.fewer y, length-drop j s, less)
 
       -- and what was read is longer by it
       module _ (more : B → B' → B) (to-more : (a : A) (b : B) (c : B') (ks : List Left) → to a (more b c) ks ≡ to' (turn a b) c ks)
@@ -164,12 +164,12 @@ module _ {A B : Type 0} (from : A → List Left → State) (to : A → B → Lis
             → ReadsAs from to whole ends' s d t r
         grows y r same_number same_left joined =
             record {
-              within = omega (arith, within-next, same_left);
+              within = omega (arith, within_next, same_left);
               fewer = λ _. omega (arith, next.fewer y, length-drop j s, same_left);
-              outcome = λ ns rs same fine. let here = so_far ns rs same fine in by ns rs here (next-outcome ns rs here);
+              outcome = λ ns rs same fine. let here = so_far ns rs same fine in by ns rs here (next_outcome ns rs here);
             }
           where
-            by : {S X : Type 0} (ns : List Name) (rs : List ℕ) (here : So-far ns rs)
+            by : {S X : Type 0} (ns : List Name) (rs : List ℕ) (here : SoFar ns rs)
                 → EitherWay f
                 ((c : B') × PartRead (drop j s) f ends' (ns ++ names (whole here.parts)) (rows_after (whole here.parts)
                 (length ns) rs) (whole' c)
@@ -181,7 +181,7 @@ module _ {A B : Type 0} (from : A → List Left → State) (to : A → B → Lis
             by ns rs here (inl (x, (c, read, goes))) =
                 let b = here.parts in
                 let all = names_more b c ns in
-                let there = behind_part s j f fits within-next in
+                let there = behind_part s j f fits within_next in
                 let here-too : behind s r ≡ behind s f = ap (λ (i : ℕ). next_token (drop (length s - i) s)) same_left in
                 inl (
                   same_number ∙ y,
@@ -193,7 +193,7 @@ module _ {A B : Type 0} (from : A → List Left → State) (to : A → B → Lis
                       ended = ap (λ (v : Read). ends' v.token) (here-too ∙ sym there) ∙ read.ended;
                     },
                     λ a text ks h k.
-                        reaches ns rs here a text ks h k ∙ goes (turn a b) text ks (tail-drop text s h j fits) k
+                        reaches ns rs here a text ks h k ∙ goes (turn a b) text ks (tail_drop text s h j fits) k
                         ∙ ap₂ (verdict text f.left) (sym (to-more a b c ks)) (sym all)
                         ∙ ap (λ (i : ℕ). verdict text i (to a (more b c) ks) (ns ++ names (whole (more b c)))) (sym same_left),
                   ),

@@ -5,11 +5,11 @@ use Prim.Native.Nat.{ℕ, ◌-◌, ◌≤◌}
 use native.Mathlib.Omega.{arith}
 use lib.ListN.{length, drop, length-drop}
 use Rattle.text.specs.Tokens.{next_token}
-use Rattle.text.proofs.Reading.{used-within-text}
+use Rattle.text.proofs.Reading.{used_within_text}
 use Rattle.table.specs.declared.cells.Table.{Table}
 use Rattle.compiler.specs.Reading.{Tail, ExpressionRead, behind, ends_expression}
 use Rattle.compiler.specs.declared.readers.Reading.{Reading}
-use Rattle.compiler.proofs.Tails.{slice, slice_drops, tail-drop}
+use Rattle.compiler.proofs.Tails.{slice, slice_drops, tail_drop}
 use Rattle.compiler.proofs.Endings.{behind_part}
 
 -- what is left behind the first token
@@ -20,7 +20,7 @@ pub size_inside : (s : List ℕ) → length (inside s) ≡ length s - (next_toke
 size_inside s = length-drop (next_token s).used s
 
 pub tail_inside : (text s : List ℕ) → Tail text s → Tail text (inside s)
-tail_inside text s h = tail-drop text s h (next_token s).used (used-within-text s)
+tail_inside text s h = tail_drop text s h (next_token s).used (used_within_text s)
 
 module _ (s : List ℕ) (d : ℕ) (t : Table) (e : Reading) (told : ExpressionRead ends_expression (slice s (next_token s).used) d t e) where
   pub inner : ExpressionRead ends_expression (inside s) d t e
@@ -29,5 +29,5 @@ module _ (s : List ℕ) (d : ℕ) (t : Table) (e : Reading) (told : ExpressionRe
   pub within_all : e.left ≤ length s
   within_all = omega (arith, inner.within, size_inside s)
 
-  pub behind-inside : behind (inside s) e ≡ behind s e
-  behind-inside = behind_part s (next_token s).used e (used-within-text s) (omega (arith, inner.within, size_inside s))
+  pub behind_inside : behind (inside s) e ≡ behind s e
+  behind_inside = behind_part s (next_token s).used e (used_within_text s) (omega (arith, inner.within, size_inside s))

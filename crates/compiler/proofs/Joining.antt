@@ -13,23 +13,23 @@ use Rattle.compiler.specs.Reading.{then_read, or_read}
 use Rattle.compiler.specs.declared.readers.Reading.{Reading}
 
 module _ (a b : Expr) (ns : List Name) where
-  pub names-then : ns ++ names (seq a b) ≡ (ns ++ names a) ++ names b
+  pub names_then : ns ++ names (seq a b) ≡ (ns ++ names a) ++ names b
   unfolding names
-  names-then = sym (append_assoc ns (names a) (names b))
+  names_then = sym (append_assoc ns (names a) (names b))
 
-  pub names-or : ns ++ names (choice a b) ≡ (ns ++ names a) ++ names b
+  pub names_or : ns ++ names (choice a b) ≡ (ns ++ names a) ++ names b
   unfolding names
-  names-or = sym (append_assoc ns (names a) (names b))
+  names_or = sym (append_assoc ns (names a) (names b))
 
 -- q was read behind the names ns, with the rows rs
 module _ (q : Reading) (a : Expr) (ns : List Name) (rs : List ℕ) (is-a : q.part ≡ part_of a ns rs) where
-  pub table-so-far : q.part.table ≡ noted (ns ++ names a) (rows_after a (length ns) rs)
-  table-so-far = ap (λ (p : Part). p.table) is-a ∙ table_behind a ns rs
+  pub table_so_far : q.part.table ≡ noted (ns ++ names a) (rows_after a (length ns) rs)
+  table_so_far = ap (λ (p : Part). p.table) is-a ∙ table_behind a ns rs
 
   -- and f behind it
   module _ (f : Reading) (b : Expr) (is_b : f.part ≡ part_behind a b ns rs) where
-    pub then-joined : (then_read q f).part ≡ part_of (seq a b) ns rs
-    then-joined = rw (is-a, is_b) (part_then a b ns rs)
+    pub then_joined : (then_read q f).part ≡ part_of (seq a b) ns rs
+    then_joined = rw (is-a, is_b) (part_then a b ns rs)
 
-    pub or-joined : (or_read q f).part ≡ part_of (choice a b) ns rs
-    or-joined = rw (is-a, is_b) (part_either a b ns rs)
+    pub or_joined : (or_read q f).part ≡ part_of (choice a b) ns rs
+    or_joined = rw (is-a, is_b) (part_either a b ns rs)

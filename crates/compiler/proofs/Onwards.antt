@@ -12,7 +12,7 @@ use Rattle.text.specs.Tokens.{next_token}
 use Rattle.text.specs.declared.tokens.Token.{Token}
 use Rattle.text.specs.declared.tokens.Token.TheVariants.{Semicolon, Plus, Star, Open, Close, Path, End, Name as Named, TextEnd, Bad, Long}
 use Rattle.text.specs.declared.tokens.Read.{Read}
-use Rattle.text.proofs.Reading.{used-within-text}
+use Rattle.text.proofs.Reading.{used_within_text}
 use Rattle.grammar.specs.Symbols.Symbol.{semicolon, plus, opening, name}
 use Rattle.grammar.specs.Machine.{Left, step_to, want_step, have_step, depth_of, limit_at, names_on, stepped, limited, onward, upward}
 use Rattle.grammar.specs.Machine.State.{wanting, having}
@@ -21,7 +21,7 @@ use Rattle.compiler.specs.declared.readers.Onward.{Onward}
 use Rattle.compiler.specs.declared.readers.Onward.TheVariants.{At, Ends}
 use Rattle.compiler.specs.declared.readers.Reading.{Reading}
 use Rattle.compiler.proofs.Tails.{slice, slice_drops, slice_size}
-use Rattle.compiler.proofs.Endings.{behind-fits, behind-symbol}
+use Rattle.compiler.proofs.Endings.{behind_fits, behind_symbol}
 use Rattle.compiler.proofs.Verdicts.{is_semicolon, is_plus, is_opening, is_name}
 
 -- behind the reading q of s the machine goes on at byte j, from a factor that has ended to one that has to come
@@ -52,7 +52,7 @@ module _ (s : List ℕ) (q : Reading) (w : q.left ≤ length s) where
       → verdict text q.left (having l f ks) ns ≡ verdict text (q.left - (behind s q).used) (wanting (turn l f) ks) ns)
       → (j : ℕ) → j ≡ length s - q.left + (behind s q).used → GoesOn turn s q j
   over turn step j is =
-      let fits = behind-fits s q w in
+      let fits = behind_fits s q w in
       let rest : q.left - (behind s q).used ≡ length s - j = omega arith in
       record {
         fits = omega arith;
@@ -60,14 +60,14 @@ module _ (s : List ℕ) (q : Reading) (w : q.left ≤ length s) where
         on = λ text h l f ks ns. step text h l f ks ns ∙ ap (λ (i : ℕ). verdict text i (wanting (turn l f) ks) ns) rest;
       }
 
-  over-semicolon : (behind s q).token ≡ Semicolon → (j : ℕ) → j ≡ length s - q.left + (behind s q).used → GoesOn onward s q j
+  over_semicolon : (behind s q).token ≡ Semicolon → (j : ℕ) → j ≡ length s - q.left + (behind s q).used → GoesOn onward s q j
   unfolding step_to have_step depth_of limit_at names_on stepped limited
-  over-semicolon e =
-      over onward λ text h l f ks ns. behind-symbol s q w text h (having l f ks) ns Semicolon semicolon e (is_semicolon _)
+  over_semicolon e =
+      over onward λ text h l f ks ns. behind_symbol s q w text h (having l f ks) ns Semicolon semicolon e (is_semicolon _)
 
-  over-plus : (behind s q).token ≡ Plus → (j : ℕ) → j ≡ length s - q.left + (behind s q).used → GoesOn upward s q j
+  over_plus : (behind s q).token ≡ Plus → (j : ℕ) → j ≡ length s - q.left + (behind s q).used → GoesOn upward s q j
   unfolding step_to have_step depth_of limit_at names_on stepped limited
-  over-plus e = over upward λ text h l f ks ns. behind-symbol s q w text h (having l f ks) ns Plus plus e (is_plus _)
+  over_plus e = over upward λ text h l f ks ns. behind_symbol s q w text h (having l f ks) ns Plus plus e (is_plus _)
 
   -- the next factor follows at once: the machine does the same from both states
   at_once : ((text : List ℕ) → Tail text s → (l : Left) (f : Expr) (ks : List Left) (ns : List Name)
@@ -81,43 +81,43 @@ module _ (s : List ℕ) (q : Reading) (w : q.left ≤ length s) where
         on = λ text h l f ks ns. same text h l f ks ns ∙ ap (λ (i : ℕ). verdict text i (wanting (onward l f) ks) ns) rest;
       }
 
-  before-name : (m : ℕ) → (behind s q).token ≡ Named m → (j : ℕ) → j ≡ length s - q.left → GoesOn onward s q j
+  before_name : (m : ℕ) → (behind s q).token ≡ Named m → (j : ℕ) → j ≡ length s - q.left → GoesOn onward s q j
   unfolding step_to have_step want_step depth_of limit_at names_on stepped
-  before-name m e =
+  before_name m e =
       at_once λ text h l f ks ns.
-      behind-symbol s q w text h (having l f ks) ns (Named m) (name _) e (is_name m _)
-      ∙ sym (behind-symbol s q w text h (wanting (onward l f) ks) ns (Named m) (name _) e (is_name m _))
+      behind_symbol s q w text h (having l f ks) ns (Named m) (name _) e (is_name m _)
+      ∙ sym (behind_symbol s q w text h (wanting (onward l f) ks) ns (Named m) (name _) e (is_name m _))
 
-  before-open : (behind s q).token ≡ Open → (j : ℕ) → j ≡ length s - q.left → GoesOn onward s q j
+  before_open : (behind s q).token ≡ Open → (j : ℕ) → j ≡ length s - q.left → GoesOn onward s q j
   unfolding step_to have_step want_step depth_of limit_at names_on stepped
-  before-open e =
+  before_open e =
       at_once λ text h l f ks ns.
-      behind-symbol s q w text h (having l f ks) ns Open opening e (is_opening _)
-      ∙ sym (behind-symbol s q w text h (wanting (onward l f) ks) ns Open opening e (is_opening _))
+      behind_symbol s q w text h (having l f ks) ns Open opening e (is_opening _)
+      ∙ sym (behind_symbol s q w text h (wanting (onward l f) ks) ns Open opening e (is_opening _))
 
   -- where the program finds another factor, or another sequence
-  pub factor-follows : (j : ℕ) → factor_from s q.left ≡ At j → GoesOn onward s q j
-  factor-follows j = by (behind s q).token refl
+  pub factor_follows : (j : ℕ) → factor_from s q.left ≡ At j → GoesOn onward s q j
+  factor_follows j = by (behind s q).token refl
     where
       by : (T : Token) → (behind s q).token ≡ T → factor_by T (length s - q.left) (behind s q).used ≡ At j → GoesOn onward s q j
-      by Semicolon is e = over-semicolon is j (sym (ap byte_of e))
+      by Semicolon is e = over_semicolon is j (sym (ap byte_of e))
       by Plus is e = never_on j e
       by Star is e = never_on j e
-      by Open is e = before-open is j (sym (ap byte_of e))
+      by Open is e = before_open is j (sym (ap byte_of e))
       by Close is e = never_on j e
       by Path is e = never_on j e
       by End is e = never_on j e
-      by (Named m) is e = before-name m is j (sym (ap byte_of e))
+      by (Named m) is e = before_name m is j (sym (ap byte_of e))
       by TextEnd is e = never_on j e
       by Bad is e = never_on j e
       by Long is e = never_on j e
 
-  pub sequence-follows : (j : ℕ) → sequence_from s q.left ≡ At j → GoesOn upward s q j
-  sequence-follows j = by (behind s q).token refl
+  pub sequence_follows : (j : ℕ) → sequence_from s q.left ≡ At j → GoesOn upward s q j
+  sequence_follows j = by (behind s q).token refl
     where
       by : (T : Token) → (behind s q).token ≡ T → sequence_by T (length s - q.left) (behind s q).used ≡ At j → GoesOn upward s q j
       by Semicolon is e = never_on j e
-      by Plus is e = over-plus is j (sym (ap byte_of e))
+      by Plus is e = over_plus is j (sym (ap byte_of e))
       by Star is e = never_on j e
       by Open is e = never_on j e
       by Close is e = never_on j e
@@ -159,7 +159,7 @@ no_sequence_follows Long i u e h = refl
 module _ (s : List ℕ) (left : ℕ) (u : Read) (told : u ≡ next_token (slice s (length s - left))) where
   pub next_fits : left ≤ length s → length s - left + u.used ≤ length s
   next_fits h =
-      omega (arith, ap (λ (v : Read). v.used) told, used-within-text (slice s (length s - left)), slice_size s (length s - left))
+      omega (arith, ap (λ (v : Read). v.used) told, used_within_text (slice s (length s - left)), slice_size s (length s - left))
 
   pub goes_by : (by : Token → ℕ → ℕ → Onward) (T : Token) → u.token ≡ T → (o : Onward) → o ≡ by T (length s - left) u.used →
       o ≡ from_by by s left

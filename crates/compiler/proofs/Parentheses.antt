@@ -15,7 +15,7 @@ use Rattle.text.specs.Tokens.{next_token}
 use Rattle.text.specs.declared.tokens.Token.{Token}
 use Rattle.text.specs.declared.tokens.Token.TheVariants.{Semicolon, Plus, Star, Open, Close, Path, End, Name as Named, TextEnd, Bad, Long}
 use Rattle.text.specs.declared.tokens.Read.{Read}
-use Rattle.text.proofs.Reading.{used-within-text}
+use Rattle.text.proofs.Reading.{used_within_text}
 use Rattle.grammar.specs.Symbols.Symbol.{closing}
 use Rattle.grammar.specs.Machine.{Left, step_to, have_step, depth_of, limit_at, names_on, stepped, limited, nothing_left, sum_to}
 use Rattle.grammar.specs.Machine.State.{wanting, having}
@@ -27,8 +27,8 @@ use Rattle.compiler.specs.Reading.{Sum, Tail, Goes, Stops, StarryRead, FactorRea
 use Rattle.compiler.specs.declared.readers.Reading.{Reading}
 use Rattle.compiler.proofs.Tails.{slice}
 use Rattle.compiler.proofs.Verdicts.{is_closing, place}
-use Rattle.compiler.proofs.Insides.{inside, size_inside, tail_inside, inner, within_all, behind-inside}
-use Rattle.compiler.proofs.Endings.{behind-symbol, behind-stuck, moves}
+use Rattle.compiler.proofs.Insides.{inside, size_inside, tail_inside, inner, within_all, behind_inside}
+use Rattle.compiler.proofs.Endings.{behind_symbol, behind_stuck, moves}
 use Rattle.compiler.proofs.Factors.{opened, limited_goes, unfit_some, unclosed_stuck}
 
 -- only `)` closes
@@ -68,25 +68,25 @@ module _ (s : List ℕ) (d : ℕ) (t : Table) (is_open : (next_token s).token �
       opened s d t text ks h is_open l ns ∙ limited_goes _ (place text s) _ low
       ∙ ap (λ (j : ℕ). verdict text j (wanting nothing_left (l ∷ ks)) ns) (sym (size_inside s))
 
-  closed-stays : (e.number ≡ 0 → ⊥) → closed s e ≡ e
+  closed_stays : (e.number ≡ 0 → ⊥) → closed s e ≡ e
   unfolding closed
-  closed-stays some = rw (ne_eqb _ _ some) refl
+  closed_stays some = rw (ne_eqb _ _ some) refl
 
-  closed-if : e.number ≡ 0 → is_close (behind s e).token ≡ true
+  closed_if : e.number ≡ 0 → is_close (behind s e).token ≡ true
       → closed s e ≡ record { number = 0; left = e.left - (behind s e).used; part = e.part }
   unfolding closed
-  closed-if z c = rw (eq-eqb _ _ z, c) refl
+  closed_if z c = rw (eq-eqb _ _ z, c) refl
 
-  closed-not : e.number ≡ 0 → is_close (behind s e).token ≡ false
+  closed_not : e.number ≡ 0 → is_close (behind s e).token ≡ false
       → closed s e ≡ halted (unfit (behind s e).token) (e.left - (behind s e).start) e.part.table
   unfolding closed
-  closed-not z c = rw (eq-eqb _ _ z, c) refl
+  closed_not z c = rw (eq-eqb _ _ z, c) refl
 
   -- the `)` takes the machine out
   leaves : (text : List ℕ) → Tail text s → (behind s e).token ≡ Close → (l k : Left) (f : Expr) (ks : List Left) (ns : List Name)
       → verdict text e.left (having l f (k ∷ ks)) ns ≡ verdict text (e.left - (behind s e).used) (having k (sum_to l f) ks) ns
   unfolding step_to have_step depth_of limit_at names_on stepped limited
-  leaves text h c l k f ks ns = behind-symbol s e (within_all s (d + 1) t e told) text h (having l f (k ∷ ks)) ns Close closing
+  leaves text h c l k f ks ns = behind_symbol s e (within_all s (d + 1) t e told) text h (having l f (k ∷ ks)) ns Close closing
       c (is_closing _)
 
   -- and anything else is refused
@@ -94,28 +94,28 @@ module _ (s : List ℕ) (d : ℕ) (t : Table) (is_open : (next_token s).token �
       → (l k : Left) (f : Expr) (ks : List Left) (ns : List Name)
       → verdict text e.left (having l f (k ∷ ks)) ns ≡ refused (unfit (behind s e).token) (length text - (e.left - (behind s e).start))
   stuck text h ended c l k f ks ns =
-      behind-stuck s e (within_all s (d + 1) t e told) text h (having l f (k ∷ ks)) ns (unclosed_stuck l k f ks (behind s
+      behind_stuck s e (within_all s (d + 1) t e told) text h (having l f (k ∷ ks)) ns (unclosed_stuck l k f ks (behind s
       e).token _ ended c)
 
   -- what the reader of factors answers: the expression, closed, with its stars
   module _ (q r : Reading) (is-closed-of : q ≡ closed s e) (starry : StarryRead s q r) where
     -- a refusal inside is a refusal of the whole
-    refused-inside : (ns : List Name) → (e.number ≡ 0 → ⊥) → Stops (inside s) e (d + 1) (λ ks. wanting nothing_left ks) ns
+    refused_inside : (ns : List Name) → (e.number ≡ 0 → ⊥) → Stops (inside s) e (d + 1) (λ ks. wanting nothing_left ks) ns
         → (r.number ≡ 0 → ⊥) × ((l : Left) → Stops s r d (λ ks. wanting l ks) ns)
-    refused-inside ns some stops =
-        let q-is : q ≡ e = is-closed-of ∙ closed-stays some in
+    refused_inside ns some stops =
+        let q-is : q ≡ e = is-closed-of ∙ closed_stays some in
         let r-is : r ≡ e = starry.refused_stays (λ z. some (ap (λ (x : Reading). x.number) (sym q-is) ∙ z)) ∙ q-is in
         subst (λ (x : Reading). (x.number ≡ 0 → ⊥) × ((l : Left) → Stops s x d (λ ks. wanting l ks) ns)) (sym r-is)
         (some, λ l text ks h k. enters text ks h k l ns ∙ stops text (l ∷ ks) (tail_inside text s h) (omega (arith, k)))
 
     -- so is anything but a `)` behind the expression
-    refused-unclosed : (ns ns' : List Name) (l' : Left) (f : Expr) → e.number ≡ 0 → ends_expression (behind s e).token ≡ true
+    refused_unclosed : (ns ns' : List Name) (l' : Left) (f : Expr) → e.number ≡ 0 → ends_expression (behind s e).token ≡ true
         → is_close (behind s e).token ≡ false
         → Goes (inside s) e.left (d + 1) (λ ks. wanting nothing_left ks) ns (λ ks. having l' f ks) ns'
         → (r.number ≡ 0 → ⊥) × ((l : Left) → Stops s r d (λ ks. wanting l ks) ns)
-    refused-unclosed ns ns' l' f z ended c goes =
+    refused_unclosed ns ns' l' f z ended c goes =
         let T = (behind s e).token in
-        let q-is : q ≡ halted (unfit T) (e.left - (behind s e).start) e.part.table = is-closed-of ∙ closed-not z c in
+        let q-is : q ≡ halted (unfit T) (e.left - (behind s e).start) e.part.table = is-closed-of ∙ closed_not z c in
         let r-is : r ≡ halted (unfit T) (e.left - (behind s e).start) e.part.table
         = starry.refused_stays (λ w. unfit_some T (ap (λ (x : Reading). x.number) (sym q-is) ∙ w)) ∙ q-is in
         subst (λ (x : Reading). (x.number ≡ 0 → ⊥) × ((l : Left) → Stops s x d (λ ks. wanting l ks) ns)) (sym r-is) (
@@ -125,13 +125,13 @@ module _ (s : List ℕ) (d : ℕ) (t : Table) (is_open : (next_token s).token �
         )
 
     -- behind the `)` the expression is a factor, starred as often as stars follow
-    read-closed : (ns : List Name) (rs : List ℕ) (l' : Left) (f : Expr) → e.number ≡ 0 → is_close (behind s e).token ≡ true
+    read_closed : (ns : List Name) (rs : List ℕ) (l' : Left) (f : Expr) → e.number ≡ 0 → is_close (behind s e).token ≡ true
         → PartRead (inside s) e ends_expression ns rs (sum_to l' f)
         → Goes (inside s) e.left (d + 1) (λ ks. wanting nothing_left ks) ns (λ ks. having l' f ks) (ns ++ names (sum_to l' f))
         → (r.number ≡ 0) × ((g : Expr) × PartRead s r ends_factor ns rs g
         × ((l : Left) → Goes s r.left d (λ ks. wanting l ks) ns (λ ks. having l g ks) (ns ++ names g)))
-    read-closed ns rs l' f z c read goes =
-        let q-is : q ≡ record { number = 0; left = e.left - (behind s e).used; part = e.part } = is-closed-of ∙ closed-if z c in
+    read_closed ns rs l' f z c read goes =
+        let q-is : q ≡ record { number = 0; left = e.left - (behind s e).used; part = e.part } = is-closed-of ∙ closed_if z c in
         let q-none : q.number ≡ 0 = ap (λ (x : Reading). x.number) q-is in
         let q-left : q.left ≡ e.left - (behind s e).used = ap (λ (x : Reading). x.left) q-is in
         let whole = sum_to l' f in
@@ -155,31 +155,31 @@ module _ (s : List ℕ) (d : ℕ) (t : Table) (is_open : (next_token s).token �
           ),
         )
 
-    left-inside : r.left ≤ e.left
-    left-inside = omega (arith, starry.within, closed_left s e, ap (λ (x : Reading). x.left) is-closed-of)
+    left_inside : r.left ≤ e.left
+    left_inside = omega (arith, starry.within, closed_left s e, ap (λ (x : Reading). x.left) is-closed-of)
 
-    pub factor-open : FactorRead s d t r
-    factor-open =
+    pub factor_open : FactorRead s d t r
+    factor_open =
         record {
-          within = omega (arith, within_all s (d + 1) t e told, left-inside);
-          fewer = λ _. omega (arith, left-inside, (inner s (d + 1) t e told).within, size_inside s, less, used-within-text s);
-          outcome = λ ns rs same fine. by-outcome ns rs ((inner s (d + 1) t e told).outcome ns rs same fine);
+          within = omega (arith, within_all s (d + 1) t e told, left_inside);
+          fewer = λ _. omega (arith, left_inside, (inner s (d + 1) t e told).within, size_inside s, less, used_within_text s);
+          outcome = λ ns rs same fine. by_outcome ns rs ((inner s (d + 1) t e told).outcome ns rs same fine);
         }
       where
-        by-close : (ns : List Name) (rs : List ℕ) (l' : Left) (f : Expr) → e.number ≡ 0
+        by_close : (ns : List Name) (rs : List ℕ) (l' : Left) (f : Expr) → e.number ≡ 0
             → PartRead (inside s) e ends_expression ns rs (sum_to l' f)
             → Goes (inside s) e.left (d + 1) (λ ks. wanting nothing_left ks) ns (λ ks. having l' f ks) (ns ++ names (sum_to l' f))
             → (b : Bool) → is_close (behind s e).token ≡ b
             → EitherWay r ((g : Expr) × PartRead s r ends_factor ns rs g
             × ((l : Left) → Goes s r.left d (λ ks. wanting l ks) ns (λ ks. having l g ks) (ns ++ names g)))
             ((l : Left) → Stops s r d (λ ks. wanting l ks) ns)
-        by-close ns rs l' f z read goes true c = inl (read-closed ns rs l' f z c read goes)
-        by-close ns rs l' f z read goes false c =
+        by_close ns rs l' f z read goes true c = inl (read_closed ns rs l' f z c read goes)
+        by_close ns rs l' f z read goes false c =
             inr
-            (refused-unclosed ns (ns ++ names (sum_to l' f)) l' f z
-            (ap (λ (x : Read). ends_expression x.token) (sym (behind-inside s (d + 1) t e told)) ∙ read.ended) c goes)
+            (refused_unclosed ns (ns ++ names (sum_to l' f)) l' f z
+            (ap (λ (x : Read). ends_expression x.token) (sym (behind_inside s (d + 1) t e told)) ∙ read.ended) c goes)
 
-        by-outcome : (ns : List Name) (rs : List ℕ)
+        by_outcome : (ns : List Name) (rs : List ℕ)
             → EitherWay e ((b : Sum) × PartRead (inside s) e ends_expression ns rs (sum_to b.0 b.1)
             × (Unit {0} → Goes (inside s) e.left (d + 1) (λ ks. wanting nothing_left ks) ns (λ ks. having b.0 b.1 ks)
             (ns ++ names (sum_to b.0 b.1))))
@@ -187,5 +187,5 @@ module _ (s : List ℕ) (d : ℕ) (t : Table) (is_open : (next_token s).token �
             → EitherWay r ((g : Expr) × PartRead s r ends_factor ns rs g
             × ((l : Left) → Goes s r.left d (λ ks. wanting l ks) ns (λ ks. having l g ks) (ns ++ names g)))
             ((l : Left) → Stops s r d (λ ks. wanting l ks) ns)
-        by-outcome ns rs (inl (z, ((l', f), read, goes))) = by-close ns rs l' f z read (goes tt) (is_close (behind s e).token) refl
-        by-outcome ns rs (inr (some, stops)) = inr (refused-inside ns some (stops tt))
+        by_outcome ns rs (inl (z, ((l', f), read, goes))) = by_close ns rs l' f z read (goes tt) (is_close (behind s e).token) refl
+        by_outcome ns rs (inr (some, stops)) = inr (refused_inside ns some (stops tt))

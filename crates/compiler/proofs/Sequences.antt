@@ -12,7 +12,7 @@ use Rattle.compiler.specs.declared.readers.Onward.TheVariants.{Ends}
 use Rattle.compiler.specs.declared.readers.Reading.{Reading}
 use Rattle.compiler.proofs.Tails.{slice}
 use Rattle.compiler.proofs.Growing as growing
-use Rattle.compiler.proofs.Joining.{names-then, then-joined}
+use Rattle.compiler.proofs.Joining.{names_then, then_joined}
 use Rattle.compiler.proofs.Onwards.{GoesOn, no_factor_follows}
 
 -- where a factor is wanted and read, and where a sequence is
@@ -37,38 +37,38 @@ turn sum b = onward (on_sum sum b.0) b.1
 
 module _ (s : List ℕ) (d : ℕ) (t : Table) where
   -- a factor is a sequence
-  pub sequence-starts : (f : Reading) → FactorRead s d t f → SequenceRead ends_factor s d t f
-  sequence-starts f given =
+  pub sequence_starts : (f : Reading) → FactorRead s d t f → SequenceRead ends_factor s d t f
+  sequence_starts f given =
       growing.starts wanted_run run_read in_order s d t wanted was_read (λ f. f) (λ sum. on_sum sum none) (λ f. (none, f)) ends_factor f given
       (λ a ks. refl) (λ a c ks. refl) (λ c. refl)
 
-  pub sequence-refused : (r : Reading) → SequenceRead ends_factor s d t r → (r.number ≡ 0 → ⊥) → SequenceRead ends_sequence s d t r
-  sequence-refused r = growing.still-refused wanted_run run_read in_order s d t ends_factor ends_sequence r
+  pub sequence_refused : (r : Reading) → SequenceRead ends_factor s d t r → (r.number ≡ 0 → ⊥) → SequenceRead ends_sequence s d t r
+  sequence_refused r = growing.still-refused wanted_run run_read in_order s d t ends_factor ends_sequence r
 
   module _ (q : Reading) (given : SequenceRead ends_factor s d t q) (z : q.number ≡ 0) where
-    pub sequence-ends : factor_from s q.left ≡ Ends → SequenceRead ends_sequence s d t q
-    sequence-ends e =
+    pub sequence_ends : factor_from s q.left ≡ Ends → SequenceRead ends_sequence s d t q
+    sequence_ends e =
         growing.ends_there wanted_run run_read in_order s d t ends_factor q given z ends_sequence (no_factor_follows (behind s
         q).token _ _ e)
 
     -- another factor follows, at byte j
     module _ (j : ℕ) (on : GoesOn onward s q j) (t' : Table) (so-far-is : t' ≡ q.part.table) (f : Reading) (told : FactorRead (slice s j) d t' f) where
-      pub factor-refused : (f.number ≡ 0 → ⊥) → SequenceRead ends_sequence s d t f
-      factor-refused =
-          growing.next-refused wanted_run run_read in_order s d t ends_factor q given z wanted was_read (λ f. f)
+      pub factor_refused : (f.number ≡ 0 → ⊥) → SequenceRead ends_sequence s d t f
+      factor_refused =
+          growing.next_refused wanted_run run_read in_order s d t ends_factor q given z wanted was_read (λ f. f)
           turn j on.fits on.less (λ text h sum b. on.on text h (on_sum sum b.0) b.1)
           t' so-far-is f ends_factor told ends_sequence
 
-      pub factor-shorter : f.number ≡ 0 → f.left < q.left
-      factor-shorter =
-          growing.next-shorter wanted_run run_read in_order s d t ends_factor q given z wanted was_read (λ f. f)
+      pub factor_shorter : f.number ≡ 0 → f.left < q.left
+      factor_shorter =
+          growing.next_shorter wanted_run run_read in_order s d t ends_factor q given z wanted was_read (λ f. f)
           turn j on.fits on.less (λ text h sum b. on.on text h (on_sum sum b.0) b.1)
           t' so-far-is f ends_factor told
 
-      pub sequence-grows : f.number ≡ 0 → (r : Reading) → r ≡ then_read q f → SequenceRead ends_factor s d t r
-      sequence-grows y r joined =
+      pub sequence_grows : f.number ≡ 0 → (r : Reading) → r ≡ then_read q f → SequenceRead ends_factor s d t r
+      sequence_grows y r joined =
           growing.grows wanted_run run_read in_order s d t ends_factor q given z wanted was_read (λ f. f)
           turn j on.fits on.less (λ text h sum b. on.on text h (on_sum sum b.0) b.1)
-          t' so-far-is f ends_factor told (λ b g. (some (in_order b), g)) (λ a b c ks. refl) (λ b c ns. names-then (in_order b) c ns) y r
+          t' so-far-is f ends_factor told (λ b g. (some (in_order b), g)) (λ a b c ks. refl) (λ b c ns. names_then (in_order b) c ns) y r
           (ap (λ (x : Reading). x.number) joined) (ap (λ (x : Reading). x.left) joined)
-          (λ ns rs b c is_b is_c. ap (λ (x : Reading). x.part) joined ∙ then-joined q (in_order b) ns rs is_b f c is_c)
+          (λ ns rs b c is_b is_c. ap (λ (x : Reading). x.part) joined ∙ then_joined q (in_order b) ns rs is_b f c is_c)

@@ -12,14 +12,14 @@ use Rattle.meaning.specs.Words.{Expr}
 use Rattle.text.specs.Tokens.{next_token}
 use Rattle.text.specs.declared.tokens.Token.TheVariants.{Star}
 use Rattle.text.specs.declared.tokens.Read.{Read}
-use Rattle.text.proofs.Reading.{used-within-text}
+use Rattle.text.proofs.Reading.{used_within_text}
 use Rattle.grammar.specs.Symbols.Symbol.{asterisk}
 use Rattle.grammar.specs.Machine.{Left, step_to, have_step, depth_of, limit_at, names_on, stepped, limited}
 use Rattle.grammar.specs.Machine.State.{having}
 use Rattle.parts.specs.Progress.{star_times}
 use Rattle.compiler.specs.Reading.{Goes, Tail, StarsRead, verdict, ends_factor}
-use Rattle.compiler.proofs.Tails.{slice, slice_drops, tail-drop}
-use Rattle.compiler.proofs.Verdicts.{is_asterisk, verdict-symbol}
+use Rattle.compiler.proofs.Tails.{slice, slice_drops, tail_drop}
+use Rattle.compiler.proofs.Verdicts.{is_asterisk, verdict_symbol}
 use Rattle.compiler.proofs.Endings.{moves}
 
 -- some stars were read from the front of s
@@ -47,55 +47,55 @@ no_stars_yet s =
 star_goes : (text s : List ℕ) → Tail text s → (next_token s).token ≡ Star → (l : Left) (f : Expr) (ks : List Left) (ns : List Name)
     → verdict text (length s) (having l f ks) ns ≡ verdict text (length s - (next_token s).used) (having l (star_times 1 f) ks) ns
 unfolding step_to have_step depth_of limit_at names_on stepped limited star_times
-star_goes text s h e l f ks ns = verdict-symbol text s h Star asterisk e (is_asterisk _) (having l f ks) ns
+star_goes text s h e l f ks ns = verdict_symbol text s h Star asterisk e (is_asterisk _) (having l f ks) ns
 
 module _ (s : List ℕ) (any : Bool) (used : ℕ) (far : StarsSoFar s any used) where
   at : List ℕ
   at = drop used s
 
-  size-at : length at ≡ length s - used
+  size_at : length at ≡ length s - used
   unfolding at
-  size-at = length-drop used s
+  size_at = length-drop used s
 
   module _ (r : Read) (is-next : r ≡ next_token (slice s used)) where
-    next-at : r ≡ next_token at
+    next_at : r ≡ next_token at
     unfolding at
-    next-at = is-next ∙ ap next_token (slice_drops s used)
+    next_at = is-next ∙ ap next_token (slice_drops s used)
 
-    pub star-fits : used + r.used ≤ length s
-    star-fits = omega (arith, far.within, size-at, ap (λ (q : Read). q.used) next-at, used-within-text at)
+    pub star_fits : used + r.used ≤ length s
+    star_fits = omega (arith, far.within, size_at, ap (λ (q : Read). q.used) next_at, used_within_text at)
 
-    pub star-is-some : r.token ≡ Star → 0 < r.used
-    star-is-some e =
-        let star = ap (λ (q : Read). q.token) (sym next-at) ∙ e in
-        omega (arith, moves at Star star refl, ap (λ (q : Read). q.used) next-at)
+    pub star_is_some : r.token ≡ Star → 0 < r.used
+    star_is_some e =
+        let star = ap (λ (q : Read). q.token) (sym next_at) ∙ e in
+        omega (arith, moves at Star star refl, ap (λ (q : Read). q.used) next_at)
 
-    pub star-more : r.token ≡ Star → StarsSoFar s true (used + r.used)
+    pub star_more : r.token ≡ Star → StarsSoFar s true (used + r.used)
     unfolding star_times at
-    star-more e =
+    star_more e =
         record {
-          within = star-fits;
+          within = star_fits;
           times = suc far.times;
           any_if = rw (ne_eqb (suc far.times) 0 (λ z. omega arith)) refl;
           none_if = λ z. absurd (true≢false z);
           goes = λ l f d ns text ks h n.
-              let star = ap (λ (q : Read). q.token) (sym next-at) ∙ e in
+              let star = ap (λ (q : Read). q.token) (sym next_at) ∙ e in
               let left : length s - used - r.used ≡ length s - (used + r.used) = omega arith in
               far.goes l f d ns text ks h n
-              ∙ ap (λ (k : ℕ). verdict text k (having l (star_times far.times f) ks) ns) (sym size-at)
-              ∙ star_goes text at (tail-drop text s h used far.within) star l (star_times far.times f) ks ns
+              ∙ ap (λ (k : ℕ). verdict text k (having l (star_times far.times f) ks) ns) (sym size_at)
+              ∙ star_goes text at (tail_drop text s h used far.within) star l (star_times far.times f) ks ns
               ∙ ap (λ (k : ℕ). verdict text k (having l (star_times (suc far.times) f) ks) ns)
-              (ap (λ (q : Read). length at - q.used) (sym next-at) ∙ ap (λ (k : ℕ). k - r.used) size-at ∙ left);
+              (ap (λ (q : Read). length at - q.used) (sym next_at) ∙ ap (λ (k : ℕ). k - r.used) size_at ∙ left);
         }
 
-    pub stars-end : ends_factor r.token ≡ true → StarsRead s (record { any = any; used = used })
+    pub stars_end : ends_factor r.token ≡ true → StarsRead s (record { any = any; used = used })
     unfolding at
-    stars-end e =
+    stars_end e =
         record {
           within = far.within;
           times = far.times;
           any_if = far.any_if;
           none_if = far.none_if;
-          ends = ap (λ (q : Read). ends_factor q.token) (sym next-at) ∙ e;
+          ends = ap (λ (q : Read). ends_factor q.token) (sym next_at) ∙ e;
           goes = far.goes;
         }

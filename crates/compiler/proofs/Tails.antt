@@ -25,12 +25,12 @@ tail_whole text =
 
 module _ (text s : List ℕ) (h : Tail text s) where
   -- behind j bytes of s
-  pub tail-behind : (j : ℕ) → j ≤ length s → drop j s ≡ rest text (length s - j)
-  tail-behind j fits =
+  pub tail_behind : (j : ℕ) → j ≤ length s → drop j s ≡ rest text (length s - j)
+  tail_behind j fits =
       let far : length text - length s + j ≡ length text - (length s - j) = omega (arith, h.within) in
       ap (drop j) h.same ∙ drop-drop j (length text - length s) text ∙ ap (λ (n : ℕ). drop n text) far
 
-  pub tail-drop : (j : ℕ) → j ≤ length s → Tail text (drop j s)
-  tail-drop j fits =
+  pub tail_drop : (j : ℕ) → j ≤ length s → Tail text (drop j s)
+  tail_drop j fits =
       let far = length-drop j s in
-      record { within = omega (arith, h.within); same = tail-behind j fits ∙ ap (rest text) (sym far) }
+      record { within = omega (arith, h.within); same = tail_behind j fits ∙ ap (rest text) (sym far) }

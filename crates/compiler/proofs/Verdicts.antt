@@ -10,7 +10,7 @@ use Rattle.meaning.specs.Names.{Name}
 use Rattle.text.specs.Tokens.{next_token}
 use Rattle.text.specs.declared.tokens.Token.{Token}
 use Rattle.text.specs.declared.tokens.Token.TheVariants.{Semicolon, Plus, Star, Open, Close, Path, End, Name as Named, TextEnd, Bad, Long}
-use Rattle.text.proofs.Reading.{start-within-used, used-within-text, end-starts-last}
+use Rattle.text.proofs.Reading.{start_within_used, used_within_text, end_starts_last}
 use Rattle.grammar.specs.Symbols.{Symbol, Item, items_by, items_from}
 use Rattle.grammar.specs.Symbols.Symbol.{semicolon, plus, asterisk, opening, closing, path, end, name}
 use Rattle.grammar.specs.Symbols.Lexeme.{symbol}
@@ -19,7 +19,7 @@ use Rattle.grammar.specs.Machine.State.{outside, wanting, having, finished}
 use Rattle.grammar.specs.Machine.Verdict.{refused}
 use Rattle.grammar.proofs.Items.{reading_goes_on}
 use Rattle.compiler.specs.Reading.{rest, Tail, verdict, unfit}
-use Rattle.compiler.proofs.Tails.{tail-behind}
+use Rattle.compiler.proofs.Tails.{tail_behind}
 
 -- the token is the symbol t, whatever stands behind it
 abbrev pub Is : Token → List ℕ → Symbol → Type 0
@@ -118,39 +118,39 @@ place text s = length text - (length s - (next_token s).start)
 
 module _ (text s : List ℕ) (h : Tail text s) where
   place_is : length text - length s + (next_token s).start ≡ place text s
-  place_is = omega (arith, h.within, start-within-used s, used-within-text s)
+  place_is = omega (arith, h.within, start_within_used s, used_within_text s)
 
   -- the machine at s: its first token, and then what is left
-  verdict-item : (st : State) (ns : List Name) → verdict text (length s) st ns
+  verdict_item : (st : State) (ns : List Name) → verdict text (length s) st ns
       ≡ judge_from (length text) (items_by (next_token s).token (place text s) (drop (next_token s).start s)
       (items_from (length text - (length s - (next_token s).used)) (rest text (length s - (next_token s).used)))) st ns
   unfolding verdict
-  verdict-item st ns =
+  verdict_item st ns =
       let used = (next_token s).used in
-      let far : length text - length s + used ≡ length text - (length s - used) = omega (arith, h.within, used-within-text s) in
-      let behind = ap₂ items_from far (tail-behind text s h used (used-within-text s)) in
+      let far : length text - length s + used ≡ length text - (length s - used) = omega (arith, h.within, used_within_text s) in
+      let behind = ap₂ items_from far (tail_behind text s h used (used_within_text s)) in
       ap (λ (w : List ℕ). judge_from (length text) (items_from (length text - length s) w) st ns) (sym h.same)
       ∙ ap (λ (is : List Item). judge_from (length text) is st ns)
       (reading_goes_on (length text - length s) s
       ∙ ap₂ (λ (k : ℕ) (is : List Item). items_by (next_token s).token k (drop (next_token s).start s) is) place_is behind)
 
   -- a symbol is stepped over, or refused by 4 or by a limit
-  pub verdict-symbol : (T : Token) (t : Symbol) → (next_token s).token ≡ T → Is T (drop (next_token s).start s) t
+  pub verdict_symbol : (T : Token) (t : Symbol) → (next_token s).token ≡ T → Is T (drop (next_token s).start s) t
       → (st : State) (ns : List Name) → verdict text (length s) st ns
       ≡ stepped (limit_at (depth_of st) ns t) (place text s) (step_to st t) (λ st'. verdict text (length s - (next_token s).used) st'
       (names_on ns t))
   unfolding judge_from judge_item verdict
-  verdict-symbol T t e is st ns = verdict-item st ns ∙ rw (e, is (place text s) _) refl
+  verdict_symbol T t e is st ns = verdict_item st ns ∙ rw (e, is (place text s) _) refl
 
   -- where the machine is stuck, the refusal
-  pub verdict-stuck : (st : State) (ns : List Name) → stuck_at st (next_token s).token (drop (next_token s).start s) ≡ true
+  pub verdict_stuck : (st : State) (ns : List Name) → stuck_at st (next_token s).token (drop (next_token s).start s) ≡ true
       → verdict text (length s) st ns ≡ refused (unfit (next_token s).token) (place text s)
-  verdict-stuck st ns stuck =
-      verdict-item st ns
+  verdict_stuck st ns stuck =
+      verdict_item st ns
       ∙ stuck_refused (next_token s).token (length text) _ _ _ st ns stuck
-      (λ e. omega (arith, h.within, end-starts-last s e))
+      (λ e. omega (arith, h.within, end_starts_last s e))
 
   -- where the text ends, so does the machine
-  pub verdict-ends : (next_token s).token ≡ TextEnd → (st : State) (ns : List Name) → verdict text (length s) st ns ≡ at_end (length text) st
+  pub verdict_ends : (next_token s).token ≡ TextEnd → (st : State) (ns : List Name) → verdict text (length s) st ns ≡ at_end (length text) st
   unfolding judge_from items_by
-  verdict-ends e st ns = verdict-item st ns ∙ rw e refl
+  verdict_ends e st ns = verdict_item st ns ∙ rw e refl

@@ -16,7 +16,7 @@ use Rattle.text.specs.Tokens.{next_token}
 use Rattle.text.specs.declared.tokens.Token.{Token}
 use Rattle.text.specs.declared.tokens.Token.TheVariants.{Semicolon, Plus, Star, Open, Close, Path, End, Name as Named, TextEnd, Bad, Long}
 use Rattle.text.specs.declared.tokens.Read.{Read}
-use Rattle.text.proofs.Reading.{start-within-used, used-within-text}
+use Rattle.text.proofs.Reading.{start_within_used, used_within_text}
 use Rattle.grammar.specs.Symbols.{items}
 use Rattle.grammar.specs.Symbols.Symbol.{path, end}
 use Rattle.grammar.specs.Machine.{Left, step_to, start_step, have_step, depth_of, limit_at, names_on, stepped, limited, at_end, judge, nothing_left, sum_to}
@@ -34,10 +34,10 @@ use Rattle.compiler.specs.Computed.{answered, compiled}
 use Rattle.compiler.specs.declared.readers.Reading.{Reading}
 use Rattle.compiler.specs.declared.replies.Compiled.{Compiled}
 use Rattle.compiler.specs.declared.replies.Reply.TheVariants.{Accepted as Accepts}
-use Rattle.compiler.proofs.Tails.{slice, tail_whole, tail-drop}
-use Rattle.compiler.proofs.Insides.{inside, size_inside, tail_inside, inner, within_all, behind-inside}
-use Rattle.compiler.proofs.Endings.{behind-fits, behind-starts, behind-symbol, behind-stuck}
-use Rattle.compiler.proofs.Verdicts.{is_path_told, is_end_told, place, stuck_at, verdict-symbol, verdict-stuck, verdict-ends}
+use Rattle.compiler.proofs.Tails.{slice, tail_whole, tail_drop}
+use Rattle.compiler.proofs.Insides.{inside, size_inside, tail_inside, inner, within_all, behind_inside}
+use Rattle.compiler.proofs.Endings.{behind_fits, behind_starts, behind_symbol, behind_stuck}
+use Rattle.compiler.proofs.Verdicts.{is_path_told, is_end_told, place, stuck_at, verdict_symbol, verdict_stuck, verdict_ends}
 
 -- only `path` starts a text
 outside_stuck : (T : Token) (w : List ℕ) → is_path T ≡ false → stuck_at outside T w ≡ true
@@ -122,26 +122,26 @@ compile_long text h = rw (lt-ltb 4096 (length text) h) refl
 
 module _ (text : List ℕ) (short : length text ≤ 4096) where
   -- the machine starts outside, with the whole text left
-  judged-from-outside : judge text ≡ verdict text (length text) outside []
+  judged_from_outside : judge text ≡ verdict text (length text) outside []
   unfolding judge verdict items
-  judged-from-outside =
+  judged_from_outside =
       let none-gone : length text - length text ≡ 0 = omega arith in
       rw (le-ltb 4096 (length text) short, none-gone) refl
 
   answers : (v : Compiled) → v ≡ answered (verdict text (length text) outside []) → v ≡ compiled text
   unfolding compiled
-  answers v e = e ∙ ap answered (sym judged-from-outside)
+  answers v e = e ∙ ap answered (sym judged_from_outside)
 
-  pub compile-not-path : (u : Read) → u ≡ next_token text → is_path u.token ≡ false → (r : Compiled)
+  pub compile_not_path : (u : Read) → u ≡ next_token text → is_path u.token ≡ false → (r : Compiled)
       → r ≡ refused_at (unfit u.token) u.start → r ≡ compiled text
-  compile-not-path u told other r is =
+  compile_not_path u told other r is =
       let T = (next_token text).token in
-      let at-start : place text text ≡ (next_token text).start = omega (arith, start-within-used text, used-within-text text) in
+      let at-start : place text text ≡ (next_token text).start = omega (arith, start_within_used text, used_within_text text) in
       answers r
       (is ∙ ap (λ (v : Read). refused_at (unfit v.token) v.start) told
       ∙ ap answered
       (ap (refused (unfit T)) (sym at-start)
-      ∙ sym (verdict-stuck text text (tail_whole text) outside [] (outside_stuck T _ (ap (λ (v : Read). is_path v.token) (sym
+      ∙ sym (verdict_stuck text text (tail_whole text) outside [] (outside_stuck T _ (ap (λ (v : Read). is_path v.token) (sym
       told) ∙ other)))))
 
   -- the text starts with `path`, and e was read behind it
@@ -150,44 +150,44 @@ module _ (text : List ℕ) (short : length text ≤ 4096) where
     enters : verdict text (length text) outside [] ≡ verdict text (length (inside text)) (wanting nothing_left []) []
     unfolding step_to start_step depth_of limit_at names_on stepped limited
     enters =
-        verdict-symbol text text (tail_whole text) Path path is-path-token (is_path_told _) outside []
+        verdict_symbol text text (tail_whole text) Path path is-path-token (is_path_told _) outside []
         ∙ ap (λ (k : ℕ). verdict text k (wanting nothing_left []) []) (sym (size_inside text))
 
     -- where the token behind e stands
-    place-behind : length text - (e.left - (behind text e).start) ≡ length text - e.left + (behind text e).start
-    place-behind = omega (arith, (within_all text 0 t e told), behind-starts text e (within_all text 0 t e told))
+    place_behind : length text - (e.left - (behind text e).start) ≡ length text - e.left + (behind text e).start
+    place_behind = omega (arith, (within_all text 0 t e told), behind_starts text e (within_all text 0 t e told))
 
     -- anything but `end` is refused
     unended : (l : Left) (f : Expr) (ns : List Name) → ends_expression (behind text e).token ≡ true → is_end (behind text e).token ≡ false
         → verdict text e.left (having l f []) ns ≡ refused (unfit (behind text e).token) (length text - e.left + (behind text e).start)
     unended l f ns stop other =
         let T = (behind text e).token in
-        behind-stuck text e (within_all text 0 t e told) text (tail_whole text) (having l f []) ns (unended_stuck l f T _ stop other)
-        ∙ ap (refused (unfit T)) place-behind
+        behind_stuck text e (within_all text 0 t e told) text (tail_whole text) (having l f []) ns (unended_stuck l f T _ stop other)
+        ∙ ap (refused (unfit T)) place_behind
 
     -- what is left behind `end`
     last : List ℕ
     last = drop (length text - e.left + (behind text e).used) text
 
-    size-last : length last ≡ e.left - (behind text e).used
+    size_last : length last ≡ e.left - (behind text e).used
     unfolding last
-    size-last = omega (arith, length-drop (length text - e.left + (behind text e).used) text, (within_all text 0 t e told))
+    size_last = omega (arith, length-drop (length text - e.left + (behind text e).used) text, (within_all text 0 t e told))
 
-    tail-last : Tail text last
+    tail_last : Tail text last
     unfolding last
-    tail-last =
-        tail-drop text text (tail_whole text) (length text - e.left + (behind text e).used)
-        (omega (arith, (within_all text 0 t e told), behind-fits text e (within_all text 0 t e told)))
+    tail_last =
+        tail_drop text text (tail_whole text) (length text - e.left + (behind text e).used)
+        (omega (arith, (within_all text 0 t e told), behind_fits text e (within_all text 0 t e told)))
 
-    place-last : place text last ≡ length text - e.left + (behind text e).used + (next_token last).start
-    place-last =
+    place_last : place text last ≡ length text - e.left + (behind text e).used + (next_token last).start
+    place_last =
         omega (
           arith,
-          size-last,
+          size_last,
           (within_all text 0 t e told),
-          behind-fits text e (within_all text 0 t e told),
-          start-within-used last,
-          used-within-text last,
+          behind_fits text e (within_all text 0 t e told),
+          start_within_used last,
+          used_within_text last,
         )
 
     -- `end` takes the machine to its last state
@@ -195,9 +195,9 @@ module _ (text : List ℕ) (short : length text ≤ 4096) where
         → verdict text e.left (having l f []) ns ≡ verdict text (length last) (finished (sum_to l f)) ns
     unfolding step_to have_step depth_of limit_at names_on stepped limited
     ends l f ns is-end-token =
-        behind-symbol text e (within_all text 0 t e told) text (tail_whole text) (having l f []) ns End end
+        behind_symbol text e (within_all text 0 t e told) text (tail_whole text) (having l f []) ns End end
         (is_the_end (behind text e).token is-end-token) (is_end_told _)
-        ∙ ap (λ (k : ℕ). verdict text k (finished (sum_to l f)) ns) (sym size-last)
+        ∙ ap (λ (k : ℕ). verdict text k (finished (sum_to l f)) ns) (sym size_last)
 
     -- behind it, the text ends, and the table is that of the expression; or there is more, which is refused
     concludes : (w : Expr) (ns : List Name) → e.part ≡ part_of w [] (replicate 64 0) → Fine (names w)
@@ -212,10 +212,10 @@ module _ (text : List ℕ) (short : length text ≤ 4096) where
             → concluded last (length text - e.left + (behind text e).used) e.part ≡ answered (verdict text (length last) (finished w) ns)
         by true is =
             rw is (ap (λ (t : Table). record { reply = Accepts; table = t }) (ap completed part ∙ completed_part w few))
-            ∙ ap answered (sym (verdict-ends text last tail-last (ends_the_text (next_token last).token is) (finished w) ns))
+            ∙ ap answered (sym (verdict_ends text last tail_last (ends_the_text (next_token last).token is) (finished w) ns))
         by false is =
-            rw is (ap (refused_at (unfit (next_token last).token)) (sym place-last))
-            ∙ ap answered (sym (verdict-stuck text last tail-last (finished w) ns (finished_stuck w (next_token last).token _ is)))
+            rw is (ap (refused_at (unfit (next_token last).token)) (sym place_last))
+            ∙ ap answered (sym (verdict_stuck text last tail_last (finished w) ns (finished_stuck w (next_token last).token _ is)))
 
     -- the same for the token behind e
     ends_so : (l : Left) (f : Expr) → e.number ≡ 0 → PartRead (inside text) e ends_expression [] (replicate 64 0) (sum_to l f)
@@ -229,15 +229,15 @@ module _ (text : List ℕ) (short : length text ≤ 4096) where
             rw is (concludes (sum_to l f) (names (sum_to l f)) read.part read.fine)
             ∙ ap answered (sym (ends l f (names (sum_to l f)) is))
         by false is =
-            let stop = ap (λ (v : Read). ends_expression v.token) (sym (behind-inside text 0 t e told)) ∙ read.ended in
+            let stop = ap (λ (v : Read). ends_expression v.token) (sym (behind_inside text 0 t e told)) ∙ read.ended in
             rw is refl ∙ ap answered (sym (unended l f (names (sum_to l f)) stop is))
 
-    refused-there : (e.number ≡ 0 → ⊥) → ended text e ≡ refused_at e.number (length text - e.left)
+    refused_there : (e.number ≡ 0 → ⊥) → ended text e ≡ refused_at e.number (length text - e.left)
     unfolding ended
-    refused-there Some-number = rw (ne_eqb _ _ Some-number) refl
+    refused_there Some-number = rw (ne_eqb _ _ Some-number) refl
 
-    pub compile-path : (r : Compiled) → r ≡ ended text e → r ≡ compiled text
-    compile-path r is =
+    pub compile_path : (r : Compiled) → r ≡ ended text e → r ≡ compiled text
+    compile_path r is =
         answers r (is ∙ by ((inner text 0 t e told).outcome [] (replicate 64 0) (is-zeros ∙ nothing_noted) nothing_fine) ∙ ap
         answered (sym enters))
       where
@@ -249,14 +249,14 @@ module _ (text : List ℕ) (short : length text ≤ 4096) where
             → ended text e ≡ answered (verdict text (length (inside text)) (wanting nothing_left []) [])
         by (inl (z, ((l, f), read, goes))) = ends_so l f z read ∙ ap answered (sym (goes tt text [] (tail_inside text text
             (tail_whole text)) refl))
-        by (inr (Some-number, stops)) = refused-there Some-number ∙ ap answered (sym (stops tt text [] (tail_inside text text
+        by (inr (Some-number, stops)) = refused_there Some-number ∙ ap answered (sym (stops tt text [] (tail_inside text text
             (tail_whole text)) refl))
 
   -- as the program has it: u is the first token, which it reads
-  pub starts-with-path : (u : Read) → u ≡ next_token text → u.token ≡ Path → (t : Table) (e : Reading) → t ≡ zeros
+  pub starts_with_path : (u : Read) → u ≡ next_token text → u.token ≡ Path → (t : Table) (e : Reading) → t ≡ zeros
       → ExpressionRead ends_expression (slice text u.used) 0 t e → (r : Compiled) → r ≡ ended text e → r ≡ compiled text
-  starts-with-path u told =
+  starts_with_path u told =
       subst
       (λ (v : Read).
       v.token ≡ Path → (t : Table) (e : Reading) → t ≡ zeros → ExpressionRead ends_expression (slice text v.used) 0 t e
-      → (r : Compiled) → r ≡ ended text e → r ≡ compiled text) (sym told) compile-path
+      → (r : Compiled) → r ≡ ended text e → r ≡ compiled text) (sym told) compile_path

@@ -7,9 +7,9 @@ use Rattle.meaning.specs.Words.{Expr}
 use Rattle.grammar.specs.Symbols.{Symbol}
 use Rattle.grammar.specs.Symbols.Symbol.{semicolon, plus, asterisk, opening, closing, path, end, name}
 use Rattle.grammar.specs.Grammar.{Expression, Sequence, Factor, Whole}
-use Rattle.grammar.specs.Grammar.Expression.{one-sequence, and-another}
-use Rattle.grammar.specs.Grammar.Sequence.{one-factor, and_then, and-next}
-use Rattle.grammar.specs.Grammar.Factor.{a-name, in-parentheses, starred}
+use Rattle.grammar.specs.Grammar.Expression.{one_sequence, and_another}
+use Rattle.grammar.specs.Grammar.Sequence.{one_factor, and_then, and_next}
+use Rattle.grammar.specs.Grammar.Factor.{a_name, in_parentheses, starred}
 use Rattle.grammar.specs.Machine.{Left, nothing_left, then_after, or_after, sum_to, onward, upward, State, step_to, start_step, want_step, have_step}
 use Rattle.grammar.specs.Machine.State.{outside, wanting, having, finished}
 use Rattle.grammar.proofs.Runs.{Held}
@@ -51,27 +51,27 @@ lefts_nothing = lefts [] [] (no_sum refl) (no_run refl) refl
 
 -- a factor ends the sequence, and the sequence the sum
 ends_run : {o : Option Expr} {q v : List Symbol} {f : Expr} → Running q o → Factor v f → Sequence (q ++ v) (then_after o f)
-ends_run (no_run e) d = rw e (one-factor d)
-ends_run {q = q} {v = v} (run s) d = and-next q v s d refl
+ends_run (no_run e) d = rw e (one_factor d)
+ends_run {q = q} {v = v} (run s) d = and_next q v s d refl
 ends_run {v = v} (run_then u s e) d = rw (e, append_assoc) (and_then u v s d refl)
 
 ends_sum : {o : Option Expr} {p v : List Symbol} {b : Expr} → Summed p o → Sequence v b → Expression (p ++ v) (or_after o b)
-ends_sum (no_sum e) d = rw e (one-sequence d)
-ends_sum {v = v} (sum u s e) d = rw (e, append_assoc) (and-another u v s d refl)
+ends_sum (no_sum e) d = rw e (one_sequence d)
+ends_sum {v = v} (sum u s e) d = rw (e, append_assoc) (and_another u v s d refl)
 
 module _ {l : Left} {v : List Symbol} {f : Expr} (d : Factor v f) where
-  ends-expression : {q : List Symbol} → Lefts q l → Expression (q ++ v) (sum_to l f)
-  ends-expression (lefts s r hs hr e) = rw (e, append_assoc s r v) (ends_sum hs (ends_run hr d))
+  ends_expression_told : {q : List Symbol} → Lefts q l → Expression (q ++ v) (sum_to l f)
+  ends_expression_told (lefts s r hs hr e) = rw (e, append_assoc s r v) (ends_sum hs (ends_run hr d))
 
   -- what is to the left behind the factor: if another follows, behind a `;`, behind a `+`
-  lefts-next : {q : List Symbol} → Lefts q l → Lefts (q ++ v) (onward l f)
-  lefts-next (lefts s r hs hr e) = lefts s (r ++ v) hs (run (ends_run hr d)) (rw e (append_assoc s r v))
+  lefts_next : {q : List Symbol} → Lefts q l → Lefts (q ++ v) (onward l f)
+  lefts_next (lefts s r hs hr e) = lefts s (r ++ v) hs (run (ends_run hr d)) (rw e (append_assoc s r v))
 
-  lefts-then : {q : List Symbol} → Lefts q l → Lefts (q ++ (v ++ semicolon ∷ [])) (onward l f)
-  lefts-then (lefts s r hs hr e) = lefts s _ hs (run_then (r ++ v) (ends_run hr d) refl) (rw e (simp append_assoc))
+  lefts_then : {q : List Symbol} → Lefts q l → Lefts (q ++ (v ++ semicolon ∷ [])) (onward l f)
+  lefts_then (lefts s r hs hr e) = lefts s _ hs (run_then (r ++ v) (ends_run hr d) refl) (rw e (simp append_assoc))
 
-  lefts-plus : {q : List Symbol} → Lefts q l → Lefts (q ++ (v ++ plus ∷ [])) (upward l f)
-  lefts-plus {q} h = lefts _ [] (sum (q ++ v) (ends-expression h) refl) (no_run refl) (simp (append_assoc, append-nil))
+  lefts_plus : {q : List Symbol} → Lefts q l → Lefts (q ++ (v ++ plus ∷ [])) (upward l f)
+  lefts_plus {q} h = lefts _ [] (sum (q ++ v) (ends_expression_told h) refl) (no_run refl) (simp (append_assoc, append-nil))
 
 -- what is ahead of a factor moves on with what is to its left
 ahead_moves : {w : List Symbol} {l l' : Left} {ks : List Left} (x : List Symbol) → ((q : List Symbol) → Lefts q l → Lefts (q ++ x) l')
@@ -88,12 +88,12 @@ closes : {u v : List Symbol} {l k : Left} {f : Expr} {ks : List Left} → Ahead 
 closes {u} {v} (ahead p q (one_more p' q' hs hk e) hq e') d =
     let within = q ++ v in
     let regrouped : u ++ v ++ closing ∷ [] ≡ p' ++ q' ++ (opening ∷ within ++ closing ∷ []) = rw (e', e) (simp append_assoc) in
-    behind (p' ++ q') (opening ∷ within ++ closing ∷ []) (ahead p' q' hs hk refl) (in-parentheses within (ends-expression d hq)
+    behind (p' ++ q') (opening ∷ within ++ closing ∷ []) (ahead p' q' hs hk refl) (in_parentheses within (ends_expression_told d hq)
     refl) regrouped
 
 -- `end` makes a whole text of it
 ends : {u v : List Symbol} {l : Left} {f : Expr} → Ahead u l [] → Factor v f → Whole (u ++ v ++ end ∷ []) (sum_to l f)
-ends {v = v} (ahead p q (none_open e) hq e') d = (q ++ v, ends-expression d hq, rw (e', e))
+ends {v = v} (ahead p q (none_open e) hq e') d = (q ++ v, ends_expression_told d hq, rw (e', e))
 
 -- each step keeps what is behind
 start_keeps : {w : List Symbol} → Reached w outside → (t : Symbol) → Held (Reached (w ++ t ∷ [])) (start_step t)
@@ -109,7 +109,7 @@ start_keeps r end = tt
 
 want_keeps : {w : List Symbol} {l : Left} {ks : List Left} → Ahead w l ks → (t : Symbol) → Held (Reached (w ++ t ∷ [])) (want_step l ks t)
 unfolding want_step
-want_keeps {w} h (name n) = behind w (name n ∷ []) h (a-name n refl) refl
+want_keeps {w} h (name n) = behind w (name n ∷ []) h (a_name n refl) refl
 want_keeps h opening = before (ahead_opens h)
 want_keeps h semicolon = tt
 want_keeps h plus = tt
@@ -121,10 +121,10 @@ want_keeps h end = tt
 have_keeps : (l : Left) (f : Expr) (ks : List Left) {u v : List Symbol} → Ahead u l ks → Factor v f → (t : Symbol)
     → Held (Reached (u ++ v ++ t ∷ [])) (have_step l f ks t)
 unfolding have_step
-have_keeps l f ks {u} {v} h d (name n) = behind (u ++ v) (name n ∷ []) (ahead_moves v (λ q. lefts-next d) h) (a-name n refl) refl
-have_keeps l f ks {v = v} h d opening = before (ahead_opens (ahead_moves v (λ q. lefts-next d) h))
-have_keeps l f ks h d semicolon = rw append_assoc (before (ahead_moves _ (λ q. lefts-then d) h))
-have_keeps l f ks h d plus = rw append_assoc (before (ahead_moves _ (λ q. lefts-plus d) h))
+have_keeps l f ks {u} {v} h d (name n) = behind (u ++ v) (name n ∷ []) (ahead_moves v (λ q. lefts_next d) h) (a_name n refl) refl
+have_keeps l f ks {v = v} h d opening = before (ahead_opens (ahead_moves v (λ q. lefts_next d) h))
+have_keeps l f ks h d semicolon = rw append_assoc (before (ahead_moves _ (λ q. lefts_then d) h))
+have_keeps l f ks h d plus = rw append_assoc (before (ahead_moves _ (λ q. lefts_plus d) h))
 have_keeps l f ks {u} {v} h d asterisk = rw append_assoc (behind u (v ++ asterisk ∷ []) h (starred v d refl) refl)
 have_keeps l f [] h d closing = tt
 have_keeps l f (k ∷ ks) h d closing = closes h d

@@ -19,7 +19,7 @@ use Rattle.grammar.proofs.Runs.{reached, after_append, none_after_none}
 use Rattle.grammar.proofs.Derived.{whole_runs}
 use Rattle.grammar.proofs.Completed.{reached_starts}
 use Rattle.grammar.proofs.Counts.{opened_append, closed_append, names_after, step_deep}
-use Rattle.grammar.proofs.Limits.{Under, limit-row, row-limit, limit-keeps}
+use Rattle.grammar.proofs.Limits.{Under, limit_row, row_limit, limit_keeps}
 
 -- the symbols u lead to state s and pass no limit
 pub record Kept (u : List Symbol) (s : State) : Type 0 where
@@ -79,7 +79,7 @@ module _ (u : List Symbol) (s : State) (kept : Kept u s) where
   module _ (t : Symbol) (s' : State) (step : step_to s t ≡ some s') where
     kept_step : limit_at (depth_of s) (names_in u) t ≡ 0 → Kept (u ++ t ∷ []) s'
     kept_step none_passed =
-        let keeps = limit-keeps u (depth_of s) kept.under t none_passed in
+        let keeps = limit_keeps u (depth_of s) kept.under t none_passed in
         let deep = step_deep s t s' step in
         record {
           leads = rw (step_leads u s t kept.leads) step;
@@ -92,30 +92,30 @@ module _ (u : List Symbol) (s : State) (kept : Kept u s) where
               };
         }
 
-    some-starts : ¬ StartsNoText (u ++ t ∷ [])
-    some-starts = state_starts_some (u ++ t ∷ []) s' (rw (step_leads u s t kept.leads) step)
+    some_starts : ¬ StartsNoText (u ++ t ∷ [])
+    some_starts = state_starts_some (u ++ t ∷ []) s' (rw (step_leads u s t kept.leads) step)
 
-    decides-limit : (n : ℕ) → limit_at (depth_of s) (names_in u) t ≡ n → Decided u s (symbol t)
+    decides_limit : (n : ℕ) → limit_at (depth_of s) (names_in u) t ≡ n → Decided u s (symbol t)
     unfolding judge_item stepped limited
-    decides-limit zero e =
-        goes_on {t = t} s' (λ n r. omega (arith, row-limit u (depth_of s) kept.under t r some-starts)) (kept_step e)
+    decides_limit zero e =
+        goes_on {t = t} s' (λ n r. omega (arith, row_limit u (depth_of s) kept.under t r some_starts)) (kept_step e)
         (λ k go. rw (step, e, names_after u t))
-    decides-limit (suc n) e =
+    decides_limit (suc n) e =
         refuses (suc n) (
-          rw e at (limit-row u (depth_of s) kept.under t (omega arith)),
-          λ m below r. omega (arith, row-limit u (depth_of s) kept.under t r some-starts),
+          rw e at (limit_row u (depth_of s) kept.under t (omega arith)),
+          λ m below r. omega (arith, row_limit u (depth_of s) kept.under t r some_starts),
         )
         (λ k go. rw (step, e))
 
-  decides-step : (t : Symbol) (o : Option State) → step_to s t ≡ o → Decided u s (symbol t)
+  decides_step : (t : Symbol) (o : Option State) → step_to s t ≡ o → Decided u s (symbol t)
   unfolding judge_item stepped
-  decides-step t none e =
+  decides_step t none e =
       refuses 4 (lowest_least u (symbol t) (no_text t refl (stuck_starts_none (u ++ t ∷ []) (rw (step_leads u s t kept.leads) e))))
       (λ k go. rw e)
-  decides-step t (some s') e = decides-limit t s' e (limit_at (depth_of s) (names_in u) t) refl
+  decides_step t (some s') e = decides_limit t s' e (limit_at (depth_of s) (names_in u) t) refl
 
   pub decides : (x : Lexeme) → Decided u s x
   unfolding judge_item
   decides bad = refuses 2 (lowest_least u bad (bad_byte refl)) (λ k go. refl)
   decides long = refuses 3 (lowest_least u long (long_name refl)) (λ k go. refl)
-  decides (symbol t) = decides-step t (step_to s t) refl
+  decides (symbol t) = decides_step t (step_to s t) refl

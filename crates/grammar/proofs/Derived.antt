@@ -9,9 +9,9 @@ use Rattle.meaning.specs.Words.Expr.{name as name_of}
 use Rattle.grammar.specs.Symbols.{Symbol}
 use Rattle.grammar.specs.Symbols.Symbol.{semicolon, plus, asterisk, opening, closing, path, end, name}
 use Rattle.grammar.specs.Grammar.{Expression, Sequence, Factor, Whole}
-use Rattle.grammar.specs.Grammar.Expression.{one-sequence, and-another}
-use Rattle.grammar.specs.Grammar.Sequence.{one-factor, and_then, and-next}
-use Rattle.grammar.specs.Grammar.Factor.{a-name, in-parentheses, starred}
+use Rattle.grammar.specs.Grammar.Expression.{one_sequence, and_another}
+use Rattle.grammar.specs.Grammar.Sequence.{one_factor, and_then, and_next}
+use Rattle.grammar.specs.Grammar.Factor.{a_name, in_parentheses, starred}
 use Rattle.grammar.specs.Machine.{Left, nothing_left, then_after, run_to, sum_to, onward, State, step_to, start_step, want_step, have_step}
 use Rattle.grammar.specs.Machine.State.{wanting, having, finished}
 use Rattle.grammar.specs.Promises.{OneExpression}
@@ -43,36 +43,36 @@ HasExpression ks w e = (l : Left) × (f : Expr) × (after (some (wanting nothing
 mutual
   unfolding step_to want_step have_step
 
-  expression-runs : {w : List Symbol} {e : Expr} → Expression w e → (ks : List Left) → HasExpression ks w e
-  expression-runs (one-sequence d) ks = let (r, f, runs, is) = sequence-runs d none ks in (record { sum = none; run = r }, f, runs, is)
-  expression-runs (and-another u v d d' q) ks =
-      let (l, f, runs, is) = expression-runs d ks in
-      let (r, g, runs', is') = sequence-runs d' (some (sum_to l f)) ks in
+  expression_runs : {w : List Symbol} {e : Expr} → Expression w e → (ks : List Left) → HasExpression ks w e
+  expression_runs (one_sequence d) ks = let (r, f, runs, is) = sequence_runs d none ks in (record { sum = none; run = r }, f, runs, is)
+  expression_runs (and_another u v d d' q) ks =
+      let (l, f, runs, is) = expression_runs d ks in
+      let (r, g, runs', is') = sequence_runs d' (some (sum_to l f)) ks in
       (record { sum = some (sum_to l f); run = r }, g, rw (q, after_append _ u (plus ∷ v), runs) runs', rw (is', is))
 
-  sequence-runs : {w : List Symbol} {e : Expr} → Sequence w e → (s : Option Expr) (ks : List Left) → HasSequence s ks w e
-  sequence-runs (one-factor d) s ks = (none, _, factor-runs d (wanting_ready _ ks), refl)
-  sequence-runs (and_then u v {b = b} d d' q) s ks =
-      let (r, f, runs, is) = sequence-runs d s ks in
+  sequence_runs : {w : List Symbol} {e : Expr} → Sequence w e → (s : Option Expr) (ks : List Left) → HasSequence s ks w e
+  sequence_runs (one_factor d) s ks = (none, _, factor_runs d (wanting_ready _ ks), refl)
+  sequence_runs (and_then u v {b = b} d d' q) s ks =
+      let (r, f, runs, is) = sequence_runs d s ks in
       let l : Left = record { sum = s; run = r } in
-      (some (run_to l f), b, rw (q, after_append _ u (semicolon ∷ v), runs) (factor-runs d' (wanting_ready (onward l f) ks)), rw is)
-  sequence-runs (and-next u v {b = b} d d' q) s ks =
-      let (r, f, runs, is) = sequence-runs d s ks in
+      (some (run_to l f), b, rw (q, after_append _ u (semicolon ∷ v), runs) (factor_runs d' (wanting_ready (onward l f) ks)), rw is)
+  sequence_runs (and_next u v {b = b} d d' q) s ks =
+      let (r, f, runs, is) = sequence_runs d s ks in
       let l : Left = record { sum = s; run = r } in
-      (some (run_to l f), b, rw (q, after_append _ u v, runs) (factor-runs d' (having_ready l f ks)), rw is)
+      (some (run_to l f), b, rw (q, after_append _ u v, runs) (factor_runs d' (having_ready l f ks)), rw is)
 
-  factor-runs : {w : List Symbol} {e : Expr} → Factor w e → {s : State} {l : Left} {ks : List Left} → Ready s l ks
+  factor_runs : {w : List Symbol} {e : Expr} → Factor w e → {s : State} {l : Left} {ks : List Left} → Ready s l ks
       → after (some s) w ≡ some (having l e ks)
-  factor-runs (a-name n q) ready = rw (q, ready.takes_name n)
-  factor-runs (in-parentheses u d q) {l = k} {ks = ks} ready =
-      let (l, f, runs, is) = expression-runs d (k ∷ ks) in
+  factor_runs (a_name n q) ready = rw (q, ready.takes_name n)
+  factor_runs (in_parentheses u d q) {l = k} {ks = ks} ready =
+      let (l, f, runs, is) = expression_runs d (k ∷ ks) in
       rw (q, after_append _ (opening ∷ u) (closing ∷ []), ready.takes_opening, runs, is)
-  factor-runs (starred u d q) ready = rw (q, after_append _ u (asterisk ∷ []), factor-runs d ready)
+  factor_runs (starred u d q) ready = rw (q, after_append _ u (asterisk ∷ []), factor_runs d ready)
 
 pub whole_runs : {w : List Symbol} {e : Expr} → Whole w e → reached w ≡ some (finished e)
 unfolding step_to start_step have_step
 whole_runs (u, d, q) =
-    let (l, f, runs, is) = expression-runs d [] in
+    let (l, f, runs, is) = expression_runs d [] in
     rw (q, after_append _ (path ∷ u) (end ∷ []), runs, is)
 
 pub one_expression : OneExpression

@@ -9,7 +9,7 @@ use lib.ListN.{length, drop, length-drop}
 use Rattle.text.specs.Tokens.{next_token}
 use Rattle.text.specs.declared.tokens.Token.{Token}
 use Rattle.text.specs.declared.tokens.Token.TheVariants.{Semicolon, Plus, Star, Open, Close, Path, End, Name, TextEnd, Bad, Long}
-use Rattle.text.proofs.Reading.{used-within-text, token-moves-on}
+use Rattle.text.proofs.Reading.{used_within_text, token_moves_on}
 use Rattle.grammar.specs.Promises.{ReadingGoesOn}
 use Rattle.grammar.specs.Symbols.{Item, items_by, items_within, items_from}
 
@@ -37,7 +37,7 @@ same_behind t k s r r' h =
 
 -- a token that is not the end leaves fewer bytes
 fewer_left : (s : List ℕ) → ((next_token s).token ≡ TextEnd → ⊥) → length (drop (next_token s).used s) < length s
-fewer_left s goes_on = omega (arith, length-drop (next_token s).used s, used-within-text s, token-moves-on s goes_on)
+fewer_left s goes_on = omega (arith, length-drop (next_token s).used s, used_within_text s, token_moves_on s goes_on)
 
 -- more than the bytes left is enough, and more makes no difference
 any_bound : (f g k : ℕ) (s : List ℕ) → length s < f → length s < g → items_within f k s ≡ items_within g k s

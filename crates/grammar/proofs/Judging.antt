@@ -49,41 +49,41 @@ short_at_end size u no_text (having l f ks) leads = refl
 short_at_end size u no_text (finished e) leads = absurd (no_text e (finished_whole u e leads))
 
 module _ (text : List ℕ) where
-  judge-short : length text ≤ 4096 → judge text ≡ judge_from (length text) (items text) outside []
+  judge_short : length text ≤ 4096 → judge text ≡ judge_from (length text) (items text) outside []
   unfolding judge
-  judge-short short = rw (le-ltb 4096 (length text) short)
+  judge_short short = rw (le-ltb 4096 (length text) short)
 
   -- all items are unrefused: the end decides
-  judge-ends : (u : List Symbol) → length text ≤ 4096 → Reads (items text) u → Unrefused u
+  judge_ends : (u : List Symbol) → length text ≤ 4096 → Reads (items text) u → Unrefused u
       → (s : State) × (reached u ≡ some s) × (judge text ≡ at_end (length text) s)
   unfolding judge_from
-  judge-ends u short read h =
+  judge_ends u short read h =
       let (s, kept, judged) = through_all (length text) [] read h in
-      (s, kept.leads, judge-short short ∙ (rw append-nil at judged))
+      (s, kept.leads, judge_short short ∙ (rw append-nil at judged))
 
-  says-accepted : (e : Expr) → Accepted text e → judge text ≡ accepted e
+  says_accepted : (e : Expr) → Accepted text e → judge text ≡ accepted e
   unfolding at_end
-  says-accepted e a =
-      let (s, leads, judged) = judge-ends a.symbols a.short a.read (fits_unrefused a.symbols e a.whole a.limits) in
+  says_accepted e a =
+      let (s, leads, judged) = judge_ends a.symbols a.short a.read (fits_unrefused a.symbols e a.whole a.limits) in
       let ends = whole_runs a.whole in
       let last : s ≡ finished e = cc in
       rw (judged, last)
 
-  says-refused : {n k : ℕ} → Refused text n k → judge text ≡ refused n k
+  says_refused : {n k : ℕ} → Refused text n k → judge text ≡ refused n k
   unfolding judge judge_from
-  says-refused (too_long h) = rw (lt-ltb 4096 (length text) h)
-  says-refused (at_a_token before after x u n short e read h row least) =
+  says_refused (too_long h) = rw (lt-ltb 4096 (length text) h)
+  says_refused (at_a_token before after x u n short e read h row least) =
       let (s, kept, judged) = through_all (length text) (x ∷ after) read h in
-      rw (judge-short short, e, judged) (decided_least n (row, least) (decides u s kept x.lexeme) x.place _)
-  says-refused (stops_short u short read h no_text) =
-      let (s, leads, judged) = judge-ends u short read h in
+      rw (judge_short short, e, judged) (decided_least n (row, least) (decides u s kept x.lexeme) x.place _)
+  says_refused (stops_short u short read h no_text) =
+      let (s, leads, judged) = judge_ends u short read h in
       judged ∙ short_at_end (length text) u no_text s leads
 
 pub judged_exactly : JudgedExactly
 judged_exactly text =
     record {
-      accepts = λ e. (λ q. subst (Outcome text) q (judge_sound text), says-accepted text e);
-      refuses = λ n k. (λ q. subst (Outcome text) q (judge_sound text), says-refused text);
+      accepts = λ e. (λ q. subst (Outcome text) q (judge_sound text), says_accepted text e);
+      refuses = λ n k. (λ q. subst (Outcome text) q (judge_sound text), says_refused text);
     }
 
 -- a verdict is one of two
@@ -95,11 +95,11 @@ pub one_verdict : OneVerdict
 one_verdict text =
     record {
       one_or_other = either_verdict text (judge text) (judge_sound text);
-      one_expression = λ a b x y. let said = says-accepted text a x in let said' = says-accepted text b y in cc;
-      one_refusal = λ n k m l x y. let said = says-refused text x in let said' = says-refused text y in (cc, cc);
+      one_expression = λ a b x y. let said = says_accepted text a x in let said' = says_accepted text b y in cc;
+      one_refusal = λ n k m l x y. let said = says_refused text x in let said' = says_refused text y in (cc, cc);
       not_both = λ e n k x y.
-          let said = says-accepted text e x in
-          let said' = says-refused text y in
+          let said = says_accepted text e x in
+          let said' = says_refused text y in
           let z : ◌≡◌ {A = ℕ} 0 1 = cc in
           omega arith;
     }

@@ -63,31 +63,31 @@ six_or_seven true = omega arith
 six_or_seven false = omega arith
 
 module _ (u : List Symbol) (d : ℕ) (under : Under u d) where
-  meets-row : {t : Symbol} {n : ℕ} → Meets d (names_in u) t n → 0 < n → Row u (symbol t) n
-  meets-row (deepest h) some = too_deep refl (omega arith)
-  meets-row (deeper h) some = absurd (omega arith)
-  meets-row (last_position n h) some = one_position_too_many n refl (omega arith)
-  meets-row (last_name n new h) some = one_name_too_many n refl new (omega arith)
-  meets-row (known_name n h known) some = absurd (omega arith)
-  meets-row (new_name n h h') some = absurd (omega arith)
-  meets-row (no_matter o k) some = absurd (omega arith)
+  meets_row : {t : Symbol} {n : ℕ} → Meets d (names_in u) t n → 0 < n → Row u (symbol t) n
+  meets_row (deepest h) some = too_deep refl (omega arith)
+  meets_row (deeper h) some = absurd (omega arith)
+  meets_row (last_position n h) some = one_position_too_many n refl (omega arith)
+  meets_row (last_name n new h) some = one_name_too_many n refl new (omega arith)
+  meets_row (known_name n h known) some = absurd (omega arith)
+  meets_row (new_name n h h') some = absurd (omega arith)
+  meets_row (no_matter o k) some = absurd (omega arith)
 
   -- a limit that is passed is a row
-  pub limit-row : (t : Symbol) → 0 < limit_at d (names_in u) t → Row u (symbol t) (limit_at d (names_in u) t)
-  limit-row t some = meets-row (meets d (names_in u) t) some
+  pub limit_row : (t : Symbol) → 0 < limit_at d (names_in u) t → Row u (symbol t) (limit_at d (names_in u) t)
+  limit_row t some = meets_row (meets d (names_in u) t) some
 
   -- and there is one below each row, where the grammar goes on
-  pub row-limit : (t : Symbol) {m : ℕ} → Row u (symbol t) m → ¬ StartsNoText (u ++ t ∷ [])
+  pub row_limit : (t : Symbol) {m : ℕ} → Row u (symbol t) m → ¬ StartsNoText (u ++ t ∷ [])
       → (0 < limit_at d (names_in u) t) × (limit_at d (names_in u) t ≤ m)
   unfolding limit_at
-  row-limit t (bad_byte e) goes_on = let z : ◌≡◌ {A = ℕ} 0 1 = cc in absurd (omega arith)
-  row-limit t (long_name e) goes_on = let z : ◌≡◌ {A = ℕ} 0 1 = cc in absurd (omega arith)
-  row-limit t (no_text t' e stops) goes_on = let q : t ≡ t' = cc in absurd (goes_on (rw q stops))
-  row-limit t (too_deep e h) goes_on = let q : t ≡ opening = cc in rw (q, le-leb 16 d (omega arith)) (omega arith)
-  row-limit t (one_position_too_many n e h) goes_on =
+  row_limit t (bad_byte e) goes_on = let z : ◌≡◌ {A = ℕ} 0 1 = cc in absurd (omega arith)
+  row_limit t (long_name e) goes_on = let z : ◌≡◌ {A = ℕ} 0 1 = cc in absurd (omega arith)
+  row_limit t (no_text t' e stops) goes_on = let q : t ≡ t' = cc in absurd (goes_on (rw q stops))
+  row_limit t (too_deep e h) goes_on = let q : t ≡ opening = cc in rw (q, le-leb 16 d (omega arith)) (omega arith)
+  row_limit t (one_position_too_many n e h) goes_on =
       let q : t ≡ name n = cc in
       rw (q, le-leb 64 (length (names_in u)) (omega arith)) (omega arith)
-  row-limit t (one_name_too_many n e new h) goes_on =
+  row_limit t (one_name_too_many n e new h) goes_on =
       let q : t ≡ name n = cc in
       rw (q, new, le-leb 32 (length (distinct (names_in u))) (omega arith)) (six_or_seven (leb 64 (length (names_in u))))
 
@@ -95,17 +95,17 @@ module _ (u : List Symbol) (d : ℕ) (under : Under u d) where
   abbrev Keeps : Symbol → Type 0
   Keeps t = (d + opened (t ∷ []) ≤ 16) × (length (names_on (names_in u) t) ≤ 64) × (length (distinct (names_on (names_in u) t)) ≤ 32)
 
-  meets-keeps : {t : Symbol} {n : ℕ} → Meets d (names_in u) t n → n ≡ 0 → Keeps t
+  meets_keeps : {t : Symbol} {n : ℕ} → Meets d (names_in u) t n → n ≡ 0 → Keeps t
   unfolding opened names_on
-  meets-keeps (deepest h) e = absurd (omega arith)
-  meets-keeps (deeper h) e = omega arith
-  meets-keeps (last_position n h) e = absurd (omega arith)
-  meets-keeps (last_name n new h) e = absurd (omega arith)
-  meets-keeps (known_name n h known) e = rw (length-append, distinct_snoc, added_known _ n known) (omega arith)
-  meets-keeps (new_name n h h') e =
+  meets_keeps (deepest h) e = absurd (omega arith)
+  meets_keeps (deeper h) e = omega arith
+  meets_keeps (last_position n h) e = absurd (omega arith)
+  meets_keeps (last_name n new h) e = absurd (omega arith)
+  meets_keeps (known_name n h known) e = rw (length-append, distinct_snoc, added_known _ n known) (omega arith)
+  meets_keeps (new_name n h h') e =
       rw (length-append, distinct_snoc) (omega (arith, added_within (distinct (names_in u)) n))
-  meets-keeps (no_matter o k) e = rw (o, k) (omega arith)
+  meets_keeps (no_matter o k) e = rw (o, k) (omega arith)
 
   -- a symbol that passes none leaves all within the limits
-  pub limit-keeps : (t : Symbol) → limit_at d (names_in u) t ≡ 0 → Keeps t
-  limit-keeps t e = meets-keeps (meets d (names_in u) t) e
+  pub limit_keeps : (t : Symbol) → limit_at d (names_in u) t ≡ 0 → Keeps t
+  limit_keeps t e = meets_keeps (meets d (names_in u) t) e

@@ -18,9 +18,9 @@ use Rattle.grammar.specs.Symbols.Symbol.{semicolon, plus, asterisk, opening, clo
 use Rattle.grammar.specs.Symbols.Lexeme.{symbol, bad, long}
 use Rattle.grammar.specs.Symbols.Reads.{nothing, next}
 use Rattle.grammar.specs.Grammar.{Expression, Sequence, Factor}
-use Rattle.grammar.specs.Grammar.Expression.{one-sequence, and-another}
-use Rattle.grammar.specs.Grammar.Sequence.{one-factor, and_then, and-next}
-use Rattle.grammar.specs.Grammar.Factor.{a-name, in-parentheses, starred}
+use Rattle.grammar.specs.Grammar.Expression.{one_sequence, and_another}
+use Rattle.grammar.specs.Grammar.Sequence.{one_factor, and_then, and_next}
+use Rattle.grammar.specs.Grammar.Factor.{a_name, in_parentheses, starred}
 use Rattle.grammar.specs.Refusals.{names_in}
 use Rattle.grammar.specs.Promises.{NamesAsWritten, NamesWellFormed}
 use Rattle.grammar.proofs.Counts.{names_append}
@@ -28,23 +28,23 @@ use Rattle.grammar.proofs.Counts.{names_append}
 mutual
   unfolding names names_in
 
-  expression-names : {w : List Symbol} {e : Expr} → Expression w e → names e ≡ names_in w
-  expression-names (one-sequence d) = sequence-names d
-  expression-names (and-another u v d d' q) = rw (q, names_append u (plus ∷ v), expression-names d, sequence-names d')
+  expression_names : {w : List Symbol} {e : Expr} → Expression w e → names e ≡ names_in w
+  expression_names (one_sequence d) = sequence_names d
+  expression_names (and_another u v d d' q) = rw (q, names_append u (plus ∷ v), expression_names d, sequence_names d')
 
-  sequence-names : {w : List Symbol} {e : Expr} → Sequence w e → names e ≡ names_in w
-  sequence-names (one-factor d) = factor-names d
-  sequence-names (and_then u v d d' q) = rw (q, names_append u (semicolon ∷ v), sequence-names d, factor-names d')
-  sequence-names (and-next u v d d' q) = rw (q, names_append u v, sequence-names d, factor-names d')
+  sequence_names : {w : List Symbol} {e : Expr} → Sequence w e → names e ≡ names_in w
+  sequence_names (one_factor d) = factor_names d
+  sequence_names (and_then u v d d' q) = rw (q, names_append u (semicolon ∷ v), sequence_names d, factor_names d')
+  sequence_names (and_next u v d d' q) = rw (q, names_append u v, sequence_names d, factor_names d')
 
-  factor-names : {w : List Symbol} {e : Expr} → Factor w e → names e ≡ names_in w
-  factor-names (a-name n q) = rw q
-  factor-names (in-parentheses u d q) = rw (q, names_append (opening ∷ u) (closing ∷ []), append-nil) (expression-names d)
-  factor-names (starred u d q) = rw (q, names_append u (asterisk ∷ []), append-nil) (factor-names d)
+  factor_names : {w : List Symbol} {e : Expr} → Factor w e → names e ≡ names_in w
+  factor_names (a_name n q) = rw q
+  factor_names (in_parentheses u d q) = rw (q, names_append (opening ∷ u) (closing ∷ []), append-nil) (expression_names d)
+  factor_names (starred u d q) = rw (q, names_append u (asterisk ∷ []), append-nil) (factor_names d)
 
 pub names_as_written : NamesAsWritten
 unfolding names_in
-names_as_written w e (u, d, q) = rw (q, names_append (path ∷ u) (end ∷ []), append-nil) (expression-names d)
+names_as_written w e (u, d, q) = rw (q, names_append (path ∷ u) (end ∷ []), append-nil) (expression_names d)
 
 -- each of the names is well formed; each that an item has, or some items
 abbrev Formed : List Name → Type 0

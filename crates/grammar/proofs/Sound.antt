@@ -61,10 +61,10 @@ module _ (text : List ℕ) (short : length text ≤ 4096) where
   JudgedSo xs before u s = items text ≡ before ++ xs → Reads before u → Unrefused u → Kept u s
       → Outcome text (judge_from (length text) xs s (names_in u))
 
-  judged-so : (xs before : List Item) (u : List Symbol) (s : State) → JudgedSo xs before u s
+  judged_so : (xs before : List Item) (u : List Symbol) (s : State) → JudgedSo xs before u s
   unfolding judge_from
-  judged-so [] before u s e read h kept = ends_so u (rw (e, append-nil) read) h s kept.leads
-  judged-so (x ∷ xs) before u s e read h kept = go x.place (decides u s kept x.lexeme) e (judged-so xs)
+  judged_so [] before u s e read h kept = ends_so u (rw (e, append-nil) read) h s kept.leads
+  judged_so (x ∷ xs) before u s e read h kept = go x.place (decides u s kept x.lexeme) e (judged_so xs)
     where
       go : (k : ℕ) {y : Lexeme} → Decided u s y → items text ≡ before ++ record { place = k; lexeme = y } ∷ xs
           → ((before' : List Item) (u' : List Symbol) (s' : State) → JudgedSo xs before' u' s')
@@ -82,4 +82,4 @@ judge_sound text = go (ltb 4096 (length text)) refl
     go : (b : Bool) → ltb 4096 (length text) ≡ b → Outcome text (cond b (refused 1 4096) (judge_from (length text) (items text) outside []))
     go true e = too_long (ltb-true 4096 (length text) e)
     go false e =
-        judged-so text (ltb-false 4096 (length text) e) (items text) [] [] outside refl nothing unrefused_nothing kept_none
+        judged_so text (ltb-false 4096 (length text) e) (items text) [] [] outside refl nothing unrefused_nothing kept_none

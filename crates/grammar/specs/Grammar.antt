@@ -9,21 +9,21 @@ use Rattle.grammar.specs.Symbols.Symbol.{semicolon, plus, asterisk, opening, clo
 mutual
   -- "Expression: one or more sequences joined by `+`"
   pub data Expression : List Symbol → Expr → Type 0 where
-    one-sequence : {w : List Symbol} {e : Expr} → Sequence w e → Expression w e
-    and-another : {w : List Symbol} (u v : List Symbol) {a b : Expr} → Expression u a → Sequence v b → w ≡ u ++ plus ∷ v
+    one_sequence : {w : List Symbol} {e : Expr} → Sequence w e → Expression w e
+    and_another : {w : List Symbol} (u v : List Symbol) {a b : Expr} → Expression u a → Sequence v b → w ≡ u ++ plus ∷ v
         → Expression w (choice a b)
 
   -- "Sequence: one or more factors; between two factors `;` may stand or be omitted"
   pub data Sequence : List Symbol → Expr → Type 0 where
-    one-factor : {w : List Symbol} {e : Expr} → Factor w e → Sequence w e
+    one_factor : {w : List Symbol} {e : Expr} → Factor w e → Sequence w e
     and_then : {w : List Symbol} (u v : List Symbol) {a b : Expr} → Sequence u a → Factor v b → w ≡ u ++ semicolon ∷ v
         → Sequence w (seq a b)
-    and-next : {w : List Symbol} (u v : List Symbol) {a b : Expr} → Sequence u a → Factor v b → w ≡ u ++ v → Sequence w (seq a b)
+    and_next : {w : List Symbol} (u v : List Symbol) {a b : Expr} → Sequence u a → Factor v b → w ≡ u ++ v → Sequence w (seq a b)
 
   -- "Factor: a name or a parenthesised expression, then any number of `*`"
   pub data Factor : List Symbol → Expr → Type 0 where
-    a-name : {w : List Symbol} (n : Name) → w ≡ name n ∷ [] → Factor w (name_of n)
-    in-parentheses : {w : List Symbol} (u : List Symbol) {e : Expr} → Expression u e → w ≡ opening ∷ u ++ closing ∷ [] → Factor w e
+    a_name : {w : List Symbol} (n : Name) → w ≡ name n ∷ [] → Factor w (name_of n)
+    in_parentheses : {w : List Symbol} (u : List Symbol) {e : Expr} → Expression u e → w ≡ opening ∷ u ++ closing ∷ [] → Factor w e
     starred : {w : List Symbol} (u : List Symbol) {e : Expr} → Factor u e → w ≡ u ++ asterisk ∷ [] → Factor w (star e)
 
 -- "The whole text is `path`, an expression, `end`"

@@ -23,29 +23,29 @@ module _ {R A : Type 0} (make : R → Line → A) where
   abbrev packed : R → Session → List Entry → A
   packed r s l = make r (record { session = s; list = l })
 
-  parts-equal : (r r' : R) (s s' : Session) (l l' : List Entry) → (r ≡ r') × (s ≡ s') × (l ≡ l') → packed r s l ≡ packed r' s' l'
-  parts-equal r r' s s' l l' e = rw (e.0, e.1, e.2)
+  parts_equal : (r r' : R) (s s' : Session) (l l' : List Entry) → (r ≡ r') × (s ≡ s') × (l ≡ l') → packed r s l ≡ packed r' s' l'
+  parts_equal r r' s s' l l' e = rw (e.0, e.1, e.2)
 
 pub open_line_determined : (n : Line) (t : Table) (r r' : LineOpened)
     → Opens n.session n.list t r.reply r.line.session r.line.list
     → Opens n.session n.list t r'.reply r'.line.session r'.line.list → r ≡ r'
 open_line_determined n t r r' o o' =
-    parts-equal (λ (a : OpenReply) (m : Line). record { reply = a; line = m }) _ _ _ _ _ _ (open_determined _ _ _ _ _ _ t _ _ o o')
+    parts_equal (λ (a : OpenReply) (m : Line). record { reply = a; line = m }) _ _ _ _ _ _ (open_determined _ _ _ _ _ _ t _ _ o o')
 
 pub ask_line_determined : (n : Line) (t : Terminal) (name : List ℕ) (r r' : LineAsked)
     → Asks n.session n.list t name r.reply r.line.session r.line.list
     → Asks n.session n.list t name r'.reply r'.line.session r'.line.list → r ≡ r'
 ask_line_determined n t name r r' o o' =
-    parts-equal (λ (a : AskReply) (m : Line). record { reply = a; line = m }) _ _ _ _ _ _ (ask_determined _ _ _ _ _ _ t name _ _ o o')
+    parts_equal (λ (a : AskReply) (m : Line). record { reply = a; line = m }) _ _ _ _ _ _ (ask_determined _ _ _ _ _ _ t name _ _ o o')
 
 pub finish_line_determined : (n : Line) (t : Terminal) (r r' : LineFinished)
     → Finishes n.session n.list t r.reply r.line.session r.line.list
     → Finishes n.session n.list t r'.reply r'.line.session r'.line.list → r ≡ r'
 finish_line_determined n t r r' o o' =
-    parts-equal (λ (a : FinishReply) (m : Line). record { reply = a; line = m }) _ _ _ _ _ _ (finish_determined _ _ _ _ _ _ t _ _ o o')
+    parts_equal (λ (a : FinishReply) (m : Line). record { reply = a; line = m }) _ _ _ _ _ _ (finish_determined _ _ _ _ _ _ t _ _ o o')
 
 pub withdraw_line_determined : (n : Line) (t : Terminal) (r r' : LineWithdrawn)
     → Withdraws n.session n.list t r.reply r.line.session r.line.list
     → Withdraws n.session n.list t r'.reply r'.line.session r'.line.list → r ≡ r'
 withdraw_line_determined n t r r' o o' =
-    parts-equal (λ (a : WithdrawReply) (m : Line). record { reply = a; line = m }) _ _ _ _ _ _ (withdraw_determined _ _ _ _ _ _ t _ _ o o')
+    parts_equal (λ (a : WithdrawReply) (m : Line). record { reply = a; line = m }) _ _ _ _ _ _ (withdraw_determined _ _ _ _ _ _ t _ _ o o')

@@ -30,15 +30,15 @@ use Rattle.lines.specs.contracts.held.Line as L
 use Rattle.lines.proofs.held.Line.TheLaws as L'
 use Rattle.session.proofs.Lent.{ref_to}
 use Rattle.session.proofs.Records.{Holds}
-use Rattle.session.proofs.Values.{session_val, IsSession, made-session}
-use Rattle.lines.proofs.LentLocals.{Owed, OwedList, array-val, IsArray, lends_local, local_back, lends-array, array_back}
+use Rattle.session.proofs.Values.{session_val, IsSession, made_session}
+use Rattle.lines.proofs.LentLocals.{Owed, OwedList, array_val, IsArray, lends_local, local_back, lends_array, array_back}
 
 -- the list of a line
 abbrev pub entries_mir : Ty
 entries_mir = ty_array E'.mir 64
 
 abbrev entries_val : List Entry → Val
-entries_val = array-val E.the_type E'.the_laws 64
+entries_val = array_val E.the_type E'.the_laws 64
 
 abbrev pub IsEntries : List Entry → Type 0
 IsEntries = IsArray E.the_type E'.the_laws 64
@@ -57,11 +57,11 @@ pub line_list : (x : Line) → IsLine x → IsEntries x.list
 line_list x is = (LL.owed L.the_type L'.the_laws x _ is).1.0
 
 module _ {M : Type 1} {𝓤 : Ura M} (𝓛 : Logic 𝓤) where
-  pub typed-line : (x : Line) → IsLine x → T (has_ty L'.mir (line_val x)) × WT (line_val x)
-  typed-line x is = ((LL.lawful L.the_type L'.the_laws 𝓛).typed x _ is).0
+  pub typed_line : (x : Line) → IsLine x → T (has_ty L'.mir (line_val x)) × WT (line_val x)
+  typed_line x is = ((LL.lawful L.the_type L'.the_laws 𝓛).typed x _ is).0
 
-  pub typed-entries : (ys : List Entry) → IsEntries ys → T (has_ty entries_mir (entries_val ys)) × WT (entries_val ys)
-  typed-entries ys is = (((LL.array_laws E.the_field E'.the_field_laws 64).lawful 𝓛).typed (map (E.the_type).to ys) _ is).0
+  pub typed_entries : (ys : List Entry) → IsEntries ys → T (has_ty entries_mir (entries_val ys)) × WT (entries_val ys)
+  typed_entries ys is = (((LL.array_laws E.the_field E'.the_field_laws 64).lawful 𝓛).typed (map (E.the_type).to ys) _ is).0
 
 -- the lifetime and the name of each loan: of the record's, and of the list's
 abbrev pub Loans : Type 0
@@ -111,11 +111,11 @@ module _ {M : Type 1} {𝓤 : Ura M} (𝓛 : Logic 𝓤) (l l' : ℕ) where
   lends_both h ys gh gy = qed 𝓛 (Cells l l' h ys ∷ []) ∵ updating ! $ split ! $
       use1 𝓛 (later (some (λ (a : ℕ × GName). ‵ (flft (a.0 ∷ []) full_share)
       ⊛ ‵ (Holds S.the_type (named 0) (a.0 ∷ []) l 0 a.1 h) ⊛ ‵ (Owed S.the_row a.0 l a.1))))
-      (lends_local 𝓛 S.the_row S'.mir refl session_val (made-session 𝓛) (named 0) h gh l) $
+      (lends_local 𝓛 S.the_row S'.mir refl session_val (made_session 𝓛) (named 0) h gh l) $
       await ! tt $ pick ! (λ a. move ! (1 ∷ []) $
       use1 𝓛 (later (some (λ (b : ℕ × GName). ‵ (flft (b.0 ∷ []) full_share)
       ⊛ ‵ (HoldsList (a, b) l' ys) ⊛ ‵ (OwedList E.the_row 64 b.0 l' b.1))))
-      (lends-array E.the_type E'.the_laws 64 𝓛 E'.the_plain (lit< tt, lit< tt) (named 1) ys gy l') $
+      (lends_array E.the_type E'.the_laws 64 𝓛 E'.the_plain (lit< tt, lit< tt) (named 1) ys gy l') $
       await ! tt $ pick ! (λ b. split ! $ move ! (1 ∷ []) $ split ! $ move ! (3 ∷ []) $ split ! $ move ! (1 ∷ []) $ split ! $
       -- [of the record the reference, the lender's part and the token; of the list the same]
       move ! (1 ∷ 4 ∷ []) $ join ! $ move ! (1 ∷ 3 ∷ []) $ join ! $ move ! (2 ∷ 3 ∷ []) $ join ! $ at_once ! $
@@ -123,24 +123,24 @@ module _ {M : Type 1} {𝓤 : Ura M} (𝓛 : Logic 𝓤) (l l' : ℕ) where
 
   module _ (a : Loans) where
     -- what a callee asks: q is the tokens that it is lent beside, and P what it owns of its further parameters
-    pub hands-both : (h : Session) (ys : List Entry) (q : Item 𝓤) (P : Fml)
+    pub hands_both : (h : Session) (ys : List Entry) (q : Item 𝓤) (P : Fml)
         → ent 𝓤 (mean 𝓛 (Alive a ⊛ References a l l' h ys ⊛ q ⊛ ‵ P))
         (sep 𝓤 (sep 𝓤 (sep 𝓤 (A.lft (a.0.0 ∷ []) full_share) (sep 𝓤 (A.lft (a.1.0 ∷ []) full_share) (mean 𝓛 q)))
         (sem 𝓛 (fsep (Holds S.the_type (named 0) (a.0.0 ∷ []) l 0 a.0.1 h) (fsep (HoldsList a l' ys) P)))) (emp 𝓤))
-    hands-both h ys q P = qed 𝓛 (Alive a ∷ References a l l' h ys ∷ q ∷ ‵ P ∷ []) ∵ split ! $ move ! (2 ∷ []) $ split ! $
+    hands_both h ys q P = qed 𝓛 (Alive a ∷ References a l l' h ys ∷ q ∷ ‵ P ∷ []) ∵ split ! $ move ! (2 ∷ []) $ split ! $
         -- [the references; the tokens; q; P]
         move ! (1 ∷ 5 ∷ []) $ fjoin ! $ move ! (1 ∷ 0 ∷ []) $ fjoin ! $ move ! (2 ∷ 3 ∷ []) $ join ! $
         move ! (2 ∷ 0 ∷ []) $ join ! $ join ! $ nothing ! $ move ! (1 ∷ 0 ∷ []) $ done !
 
     -- what a callee leaves: what tells the last values of the two, and the tokens. It returned r, whose machine value is w
     module _ {X : Type 0} (val : X → Val) (Is-X : X → Type 0) (Does : X → Session → List Entry → Type 0) where
-      pub both-back : (r : X) (w : Val) → w ≡ val r → Is-X r → (h : Session) (ys zs : List Entry) (q : Item 𝓤) (P : Fml)
+      pub both_back : (r : X) (w : Val) → w ≡ val r → Is-X r → (h : Session) (ys zs : List Entry) (q : Item 𝓤) (P : Fml)
           → ent 𝓤 (sep 𝓤 (sep 𝓤 (sem 𝓛 (fsep (fres a.0.1 ((S.the_row).coded.code h))
           (fsep (fsep (finally E.the_row a.1.1 zs) (feq ℕ (length zs) (length ys))) P))) (fact 𝓤 (Does r h zs)))
           (sep 𝓤 (sep 𝓤 (A.lft (a.0.0 ∷ []) full_share) (sep 𝓤 (A.lft (a.1.0 ∷ []) full_share) (mean 𝓛 q)))
           (mean 𝓛 (Kept a l l'))))
           (H.⇛ (mean 𝓛 (some (λ v. given ((w ≡ val v.0) × Fits Is-X Does v) (Back l l' q v)))))
-      both-back r w same is h ys zs q P = qed 𝓛 ((‵ (fsep (fres a.0.1 ((S.the_row).coded.code h))
+      both_back r w same is h ys zs q P = qed 𝓛 ((‵ (fsep (fres a.0.1 ((S.the_row).coded.code h))
           (fsep (fsep (finally E.the_row a.1.1 zs) (feq ℕ (length zs) (length ys))) P)) ⊛ raw (fact 𝓤 (Does r h zs)))
           ∷ (‵ (flft (a.0.0 ∷ []) full_share) ⊛ ‵ (flft (a.1.0 ∷ []) full_share) ⊛ q) ∷ Kept a l l' ∷ []) ∵ updating ! $
           split ! $ move ! (1 ∷ []) $ heard ! (Does r h zs) (λ so. fsplit ! $ move ! (1 ∷ []) $ fsplit ! $ fsplit ! $

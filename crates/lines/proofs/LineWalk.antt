@@ -43,13 +43,13 @@ use Rattle.standing.proofs.records.Session.TheLaws as S'
 use Rattle.standing.specs.contracts.entries.Entry as E
 use Rattle.lines.specs.contracts.held.Line as L
 use Rattle.lines.proofs.held.Line.TheLaws as L'
-use Rattle.session.proofs.Answers.{Returns, returned, prepared, by-ending}
+use Rattle.session.proofs.Answers.{Returns, returned, prepared, by_ending}
 use Rattle.session.proofs.Lent.{ref_to}
 use Rattle.session.proofs.Locals.{value_of, field_of, sets, puts, freed}
-use Rattle.session.proofs.Values.{IsSession, typed-session}
-use Rattle.lines.proofs.LineLoans.{entries_mir, IsEntries, line_val, IsLine, line_session, line_list, typed-line}
-use Rattle.lines.proofs.LineLoans.{typed-entries, Loans, Cells, Alive, References, Kept, Fits, line_left, is_line_left}
-use Rattle.lines.proofs.LineLoans.{Back, lends_both, hands-both, both-back}
+use Rattle.session.proofs.Values.{IsSession, typed_session}
+use Rattle.lines.proofs.LineLoans.{entries_mir, IsEntries, line_val, IsLine, line_session, line_list, typed_line}
+use Rattle.lines.proofs.LineLoans.{typed_entries, Loans, Cells, Alive, References, Kept, Fits, line_left, is_line_left}
+use Rattle.lines.proofs.LineLoans.{Back, lends_both, hands_both, both_back}
 
 -- what the three differ in
 pub record Lined : Type 2 where
@@ -72,11 +72,11 @@ pub record Lined : Type 2 where
   pub Does : Session → List Entry → More.Denot → Reply.Denot → Session → List Entry → Type 0
 
 module _ (D : Lined) where
-  abbrev pub out-mir : Ty
-  out-mir = ty_struct D.out_name (tcons D.reply_mir (tcons L'.mir tnil))
+  abbrev pub out_mir : Ty
+  out_mir = ty_struct D.out_name (tcons D.reply_mir (tcons L'.mir tnil))
 
-  abbrev pub out-val : D.Reply.Denot → Line → Val
-  out-val r x = vstruct (vcons (D.reply_val r) (vcons (line_val x) vnil))
+  abbrev pub out_val : D.Reply.Denot → Line → Val
+  out_val r x = vstruct (vcons (D.reply_val r) (vcons (line_val x) vnil))
 
   abbrev IsMore : D.More.Denot → Type 0
   IsMore x = Is D.More x (D.more_val x ∷ [])
@@ -104,7 +104,7 @@ module _ (D : Lined) where
     outlives = [];
     params = 2;
     locals =
-        local out-mir value_local ∷ local L'.mir value_local ∷ local D.more_mir value_local ∷ local S'.mir memory_slot
+        local out_mir value_local ∷ local L'.mir value_local ∷ local D.more_mir value_local ∷ local S'.mir memory_slot
         ∷ local entries_mir memory_slot ∷ local D.reply_mir value_local ∷ local L'.mir value_local
         ∷ local (ty_ref erased mut (pointee (S.the_row).written)) value_local
         ∷ local (ty_ref erased mut (pointee (Array E.the_row 64).written)) value_local
@@ -114,8 +114,8 @@ module _ (D : Lined) where
   }
 
   -- the contract of the call, and the function's
-  abbrev call-ended : Ended
-  call-ended = record {
+  abbrev call_ended : Ended
+  call_ended = record {
     signature = record {
       lifetimes = 2;
       outlives = [];
@@ -139,8 +139,8 @@ module _ (D : Lined) where
   }
 
   module _ {M : Type 1} (𝓤 : Ura M) where
-    abbrev call-clauses : Clauses 𝓤 call-ended
-    call-clauses κs a = record {
+    abbrev call_clauses : Clauses 𝓤 call_ended
+    call_clauses κs a = record {
       ghost = Unit {0};
       requires = λ _. emp 𝓤;
       ensures = λ _ r e. fact 𝓤 (D.Does a.0.now a.1.0.now a.1.1.0 r e.0.now e.1.0.now);
@@ -155,7 +155,7 @@ module _ (D : Lined) where
     }
 
     abbrev pub CallSays : (𝓛 : Logic 𝓤) → Contract 𝓤
-    CallSays 𝓛 = triple_of 𝓛 call-ended.signature (closing 𝓛 call-ended call-clauses)
+    CallSays 𝓛 = triple_of 𝓛 call_ended.signature (closing 𝓛 call_ended call_clauses)
 
   abbrev stayed : Stays ended.signature.params ended.kept
   stayed = (stay_dropped (plain (λ _. L.the_row)) yes, (stay_dropped (plain (λ _. D.More)) yes, tt))
@@ -170,9 +170,9 @@ pub record Known (D : Lined) {M : Type 1} {𝓤 : Ura M} (𝓛 : Logic 𝓤) : T
   pub reply_tells : Tells D.Reply (Is D.Reply) (λ r. D.reply_val r ∷ [])
   pub reply_typed : (r : D.Reply.Denot) → IsReply D r → T (has_ty D.reply_mir (D.reply_val r)) × WT (D.reply_val r)
   pub out_typed : (r : D.Reply.Denot) (x : Line) → IsReply D r → IsLine x
-      → T (has_ty (out-mir D) (out-val D r x)) × WT (out-val D r x)
+      → T (has_ty (out_mir D) (out_val D r x)) × WT (out_val D r x)
   pub out_made : (r : D.Reply.Denot) (x : Line) → IsReply D r → IsLine x
-      → ent 𝓤 (emp 𝓤) (sem 𝓛 (D.Out.own (D.out r x) (out-val D r x ∷ [])))
+      → ent 𝓤 (emp 𝓤) (sem 𝓛 (D.Out.own (D.out r x) (out_val D r x ∷ [])))
   pub does : (h : Session) (ys : List Entry) (x : D.More.Denot) (r : D.Reply.Denot) (z : Line)
       → D.Does h ys x r z.session z.list
       → D.Does h ys x (D.reply (D.out r z)) (D.line (D.out r z)).session (D.line (D.out r z)).list
@@ -186,8 +186,8 @@ module _ (D : Lined) {M : Type 1} {𝓤 : Ura M} (𝓛 : Logic 𝓤) (facts : Kn
     abbrev Answer : D.Reply.Denot × (Session × List Entry) → Type 0
     Answer = Fits (IsReply D) (D.Does h ys x)
 
-    abbrev to-call : Loans → (CallSays D 𝓤 𝓛).Ghost
-    to-call a = (
+    abbrev to_call : Loans → (CallSays D 𝓤 𝓛).Ghost
+    to_call a = (
       (
         (a.0.0 ∷ [], (a.1.0 ∷ [], tt)),
         (full_share, (full_share, tt)),
@@ -199,19 +199,19 @@ module _ (D : Lined) {M : Type 1} {𝓤 : Ura M} (𝓛 : Logic 𝓤) (facts : Kn
     )
 
     goes : (a : Loans) → ent 𝓤 (mean 𝓛 (Alive a ⊛ References a l l' h ys ⊛ Kept a l l'))
-        (sep 𝓤 ((CallSays D 𝓤 𝓛).pre (to-call a)) (mean 𝓛 (Kept a l l')))
+        (sep 𝓤 ((CallSays D 𝓤 𝓛).pre (to_call a)) (mean 𝓛 (Kept a l l')))
     goes a = qed 𝓛 (Alive a ∷ References a l l' h ys ∷ Kept a l l' ∷ []) ∵ nothing ! $
         owned ! D.More (Is D.More) facts.more_made x _ gx $ fjoin ! $ nothing ! $ join ! $ move ! (2 ∷ 0 ∷ []) $ join ! $
-        move ! (1 ∷ 0 ∷ []) $ join ! $ use1 𝓛 (raw ((CallSays D 𝓤 𝓛).pre (to-call a)))
-        (hands-both 𝓛 l l' a h ys (‵ ftrue) (owns (D.More ∷ []) (x, tt) (D.more_val x ∷ [], tt))) $ done !
+        move ! (1 ∷ 0 ∷ []) $ join ! $ use1 𝓛 (raw ((CallSays D 𝓤 𝓛).pre (to_call a)))
+        (hands_both 𝓛 l l' a h ys (‵ ftrue) (owns (D.More ∷ []) (x, tt) (D.more_val x ∷ [], tt))) $ done !
 
-    call-answers : Triple 𝓤 (C D.call_name) (CallSays D 𝓤 𝓛)
+    call_answers : Triple 𝓤 (C D.call_name) (CallSays D 𝓤 𝓛)
         → Returns 𝓛 C D.call_name (vptr l 0 ∷ slice_val (l', 0) 64 ∷ D.more_val x ∷ []) (Cells l l' h ys)
         (λ v. D.reply_val v.0) Answer (Back l l' (‵ ftrue))
-    call-answers known = prepared 𝓛 (λ (a : Loans). Alive a ⊛ References a l l' h ys ⊛ Kept a l l') (lends_both 𝓛 l l' h ys gh gy)
-        (λ a. by-ending 𝓛 fm (call-ended D) (call-clauses D 𝓤) (to-call a) known (λ v. D.reply_val v.0) Answer
+    call_answers known = prepared 𝓛 (λ (a : Loans). Alive a ⊛ References a l l' h ys ⊛ Kept a l l') (lends_both 𝓛 l l' h ys gh gy)
+        (λ a. by_ending 𝓛 fm (call_ended D) (call_clauses D 𝓤) (to_call a) known (λ v. D.reply_val v.0) Answer
         (Back l l' (‵ ftrue)) (Alive a ⊛ References a l l' h ys ⊛ Kept a l l') (mean 𝓛 (Kept a l l'))
-        (goes a) (λ r w is ws. both-back 𝓛 l l' a D.reply_val (IsReply D) (D.Does h ys x) r w
+        (goes a) (λ r w is ws. both_back 𝓛 l l' a D.reply_val (IsReply D) (D.Does h ys x) r w
         (ap only (facts.reply_tells r (w ∷ []) is)) (subst (Is D.Reply r) (facts.reply_tells r (w ∷ []) is) is)
         ws.0 ys ws.1.0 (‵ ftrue) (fsep (left (D.More.exit yes) x ws.1.1.0) ftrue)))
 
@@ -238,12 +238,12 @@ module _ (D : Lined) {M : Type 1} {𝓤 : Ura M} (𝓛 : Logic 𝓤) (facts : Kn
 
       exits : (r : D.Reply.Denot) (y : Line) → IsReply D r → IsLine y
           → D.Does z.session z.list x r y.session y.list
-          → ent 𝓤 (emp 𝓤) (Post (out-val D r y))
+          → ent 𝓤 (emp 𝓤) (Post (out_val D r y))
       exits r y gr gy so = qed 𝓛 [] ∵
           suffices ! _ (ends_at 𝓛 (ended D) (stayed D) (clauses D 𝓤) ((tt, tt, tt, args, at), tt)
-          (out-val D r y) (D.out r y) (tt, (facts.more_last x, tt)) (tt, (tt, tt))) $
+          (out_val D r y) (D.out r y) (tt, (facts.more_last x, tt)) (tt, (tt, tt))) $
           says ! (facts.does z.session z.list x r y so) $
-          use0 𝓛 (‵ (D.Out.own (D.out r y) (out-val D r y ∷ []))) (facts.out_made r y gr gy) $
+          use0 𝓛 (‵ (D.Out.own (D.out r y) (out_val D r y ∷ []))) (facts.out_made r y gr gy) $
           nothing ! $ nothing ! $ fjoin ! $ nothing ! $ fjoin ! $ nothing ! $ done !
 
       walk : ent 𝓤 (on_entry 𝓛 (ended D).signature tt tt args at)
@@ -253,25 +253,25 @@ module _ (D : Lined) {M : Type 1} {𝓤 : Ura M} (𝓛 : Logic 𝓤) (facts : Kn
           enter ! C Λ (function D) (line_val z ∷ D.more_val x ∷ []) _ $
           alloc1 ! (λ l₀. alloc1 ! (λ l₁. alloc1 ! (λ l₂. alloc1 ! (λ l₃. alloc1 ! (λ l₄. alloc1 ! (λ l₅.
           alloc1 ! (λ l₆. alloc1 ! (λ l₇. alloc1 ! (λ l₈. alloc1 ! (λ l₉. alloc1 ! (λ l₁₀. alloc1 ! (λ l₁₁. alloc0 ! $ params1 ! $
-          pass1 ! (init ! 20 refl (typed-line 𝓛 z gz)) $ pass1 ! (init ! 18 refl (facts.more_typed x gx)) $ pass0 ! $
-          sets ! 16 refl refl (of_opd ! (field_of ! 20 0 refl refl refl)) (typed-session 𝓛 z.session (line_session z gz)) $
-          sets ! 14 refl refl (of_opd ! (field_of ! 20 1 refl refl refl)) (typed-entries 𝓛 z.list (line_list z gz)) $
+          pass1 ! (init ! 20 refl (typed_line 𝓛 z gz)) $ pass1 ! (init ! 18 refl (facts.more_typed x gx)) $ pass0 ! $
+          sets ! 16 refl refl (of_opd ! (field_of ! 20 0 refl refl refl)) (typed_session 𝓛 z.session (line_session z gz)) $
+          sets ! 14 refl refl (of_opd ! (field_of ! 20 1 refl refl refl)) (typed_entries 𝓛 z.list (line_list z gz)) $
           sets ! 8 refl refl (addr ! (from ! (stop !))) (tt, tt) $
           sets ! 6 refl refl (addr ! (from ! (stop !))) (tt, tt) $
           sets ! 4 refl refl (agg ! (and_then ! (value_of ! 6 refl) (and_then ! (lit ! tt) (no_more !))))
           (tt, (tt, (record { fits = lit< tt }, tt))) $
           -- the record's cell and the list's go to the call, and come back
           move ! (16 ∷ 14 ∷ []) $ join ! $
-          returned ! fm (call-answers fm l₃ l₄ z.session z.list x (line_session z gz) (line_list z gz) gx known)
+          returned ! fm (call_answers fm l₃ l₄ z.session z.list x (line_session z gz) (line_list z gz) gx known)
           (and_then ! (value_of ! 8 refl) (and_then ! (value_of ! 4 refl) (and_then ! (value_of ! 16 refl) (no_more !))))
           (λ v came.
           split ! $ split ! $ move ! (2 ∷ []) $ drop ! $ move ! (1 ∷ 16 ∷ 0 ∷ 17 ∷ []) $
           -- [the list's local; the record's; the other locals, the last in front; the parameters, the last in front; the result]
           puts ! 16 refl refl (facts.reply_typed v.0 came.0) $
-          sets ! 6 refl refl (of_opd ! (value_of ! 2 refl)) (typed-session 𝓛 v.1.0 came.1.0.0) $
-          sets ! 4 refl refl (of_opd ! (value_of ! 0 refl)) (typed-entries 𝓛 v.1.1 came.1.0.1) $
+          sets ! 6 refl refl (of_opd ! (value_of ! 2 refl)) (typed_session 𝓛 v.1.0 came.1.0.0) $
+          sets ! 4 refl refl (of_opd ! (value_of ! 0 refl)) (typed_entries 𝓛 v.1.1 came.1.0.1) $
           sets ! 14 refl refl (agg ! (and_then ! (value_of ! 6 refl) (and_then ! (value_of ! 4 refl) (no_more !))))
-          (typed-line 𝓛 (line_left v) (is_line_left v came.1.0)) $
+          (typed_line 𝓛 (line_left v) (is_line_left v came.1.0)) $
           sets ! 22 refl refl (agg ! (and_then ! (value_of ! 16 refl) (and_then ! (value_of ! 14 refl) (no_more !))))
           (facts.out_typed v.0 (line_left v) came.0 (is_line_left v came.1.0)) $
           returns ! (look ! 22 refl) $ freed ! 22 refl refl $ freed ! 20 refl refl $ freed ! 18 refl refl $ freed ! 2 refl refl $
@@ -279,8 +279,8 @@ module _ (D : Lined) {M : Type 1} {𝓤 : Ura M} (𝓛 : Logic 𝓤) (facts : Kn
           freed ! 4 refl refl $ freed ! 2 refl refl $ freed ! 0 refl refl $ free0 ! $
           by ! (exits v.0 (line_left v) came.0 (is_line_left v came.1.0) came.1.1))))))))))))))
 
-    pub lined-meets : Meets 𝓛 (ended D).signature (WpFn 𝓤 H C Λ (function D)) (closing 𝓛 (ended D) (clauses D 𝓤))
-    lined-meets = walk_Meets 𝓛 (ended D) (stayed D) (
+    pub lined_meets : Meets 𝓛 (ended D).signature (WpFn 𝓤 H C Λ (function D)) (closing 𝓛 (ended D) (clauses D 𝓤))
+    lined_meets = walk_Meets 𝓛 (ended D) (stayed D) (
       Goes-dropped 𝓛 0 (plain (λ _. L.the_row)) yes (λ κs x f. refl),
       (Goes-dropped 𝓛 0 (plain (λ _. D.More)) yes (λ κs x f. facts.more_silent x f), tt),
     )

@@ -27,16 +27,16 @@ due_carries k (finishes_not_running t h r) = finishes_not_running t h r
 due_carries k (withdraws_not_waiting t h w) = withdraws_not_waiting t h w
 
 module _ {Permitted Permitted' : List Name → Type 0} (p : (h : List Name) → Permitted h ↔ Permitted' h) {a : Account} where
-  asked-carries : {n : Name} {r : AskReply} → Asked Permitted a n r → Asked Permitted' a n r
-  asked-carries (is_granted f h) = is_granted f ((p _).0 h)
-  asked-carries (is_delayed d) = is_delayed (λ f. (Iff.not (p _)).0 (d f))
+  asked_carries : {n : Name} {r : AskReply} → Asked Permitted a n r → Asked Permitted' a n r
+  asked_carries (is_granted f h) = is_granted f ((p _).0 h)
+  asked_carries (is_delayed d) = is_delayed (λ f. (Iff.not (p _)).0 (d f))
 
-  handed-carries : {g : Option Grant} → Handed Permitted a g → Handed Permitted' a g
-  handed-carries (longest_goes ahead after e l o h q) = longest_goes ahead after e l (λ d m. (Iff.not (p _)).0 (o d m)) ((p _).0 h) q
-  handed-carries (nobody_goes o q) = nobody_goes (λ d m. (Iff.not (p _)).0 (o d m)) q
+  handed_carries : {g : Option Grant} → Handed Permitted a g → Handed Permitted' a g
+  handed_carries (longest_goes ahead after e l o h q) = longest_goes ahead after e l (λ d m. (Iff.not (p _)).0 (o d m)) ((p _).0 h) q
+  handed_carries (nobody_goes o q) = nobody_goes (λ d m. (Iff.not (p _)).0 (o d m)) q
 
-  orderly-carries : Orderly Permitted a → Orderly Permitted' a
-  orderly-carries o =
+  orderly_carries : Orderly Permitted a → Orderly Permitted' a
+  orderly_carries o =
       record {
         grants_permitted = (p _).0 o.grants_permitted;
         at_most_one_unfinished = o.at_most_one_unfinished;
@@ -50,10 +50,10 @@ demand_3_carries Seen Seen' Permitted Permitted' Known Known' s p k d =
       answered_alike = λ xs xs' es es' h h' e. d.answered_alike xs xs' es es' ((s xs es).1 h) ((s xs' es').1 h') e;
       seen_before = λ xs ys es h. let (before, b) = d.seen_before xs ys es ((s _ es).1 h) in (before, (s xs before).0 b);
       refused_exactly = λ xs x es m h. Iff.trans (d.refused_exactly xs x es m ((s _ es).1 h)) (due_carries k, due_carries (λ n. Iff.symm (k n)));
-      orderly = λ xs es h. orderly-carries p (d.orderly xs es ((s xs es).1 h));
-      ask_answered = λ xs es t n r h. asked-carries p (d.ask_answered xs es t n r ((s _ es).1 h));
+      orderly = λ xs es h. orderly_carries p (d.orderly xs es ((s xs es).1 h));
+      ask_answered = λ xs es t n r h. asked_carries p (d.ask_answered xs es t n r ((s _ es).1 h));
       finish_answered = λ xs es t r h. let f = d.finish_answered xs es t r ((s _ es).1 h) in
-          record { hands = handed-carries p f.hands; counts = f.counts };
+          record { hands = handed_carries p f.hands; counts = f.counts };
       withdraw_answered = λ xs es t q h. d.withdraw_answered xs es t q ((s _ es).1 h);
       entries_heard = λ xs es h. d.entries_heard xs es ((s xs es).1 h);
       conserved = λ xs es n h. d.conserved xs es n ((s xs es).1 h);

@@ -22,8 +22,8 @@ use Rattle.meaning.specs.Demand.Asked.{is_granted}
 use Rattle.meaning.specs.Demand.Handed.{nobody_goes}
 use Rattle.meaning.specs.Demand.Examined.{all_of_them}
 use Rattle.meaning.specs.LinePromises.{PermittedCanBeGranted}
-use Rattle.meaning.proofs.OneMoreCall.{no-calls, one-more-call}
-use Rattle.meaning.proofs.DemandDetermined.{asked-alike, finished-alike}
+use Rattle.meaning.proofs.OneMoreCall.{no_calls, one_more_call}
+use Rattle.meaning.proofs.DemandDetermined.{asked_alike, finished_alike}
 
 -- what one more exchange adds to what was heard
 heard_on : (a : Account) (xs : List Exchange) (x : Exchange) → hear_all a (xs ++ x ∷ []) ≡ hear (hear_all a xs) x
@@ -65,55 +65,55 @@ granted_finished h a x g = record { names = g.names; running = rw g.running; nob
 module _ {Seen : List Exchange → List Entry → Type 0} {Permitted : List Name → Type 0} {Known : Name → Type 0}
     (keeps : Demand3 Seen Permitted Known) where
   -- what terminal 0 is told while nobody waits: granted if nothing runs, and nobody's turn if it finishes
-  ask-is-granted : (h : List Name) (n : Name) → Known (key n) → Permitted (h ++ key n ∷ []) → (xs : List Exchange) (es : List Entry)
+  ask_is_granted : (h : List Name) (n : Name) → Known (key n) → Permitted (h ++ key n ∷ []) → (xs : List Exchange) (es : List Entry)
       → Granted h [] (account xs) → (r : Reply AskReply) → Seen (xs ++ asked 0 n r ∷ []) es → r ≡ done granted
-  ask-is-granted h n k p xs es g (done v) s = ap done (asked-alike (keeps.ask_answered xs es 0 n v s) (is_granted g.running (rw g.names p)))
-  ask-is-granted h n k p xs es g (refused m) s =
+  ask_is_granted h n k p xs es g (done v) s = ap done (asked_alike (keeps.ask_answered xs es 0 n v s) (is_granted g.running (rw g.names p)))
+  ask_is_granted h n k p xs es g (refused m) s =
       absurd (ask_not_due (omega arith) k (λ q. Memᴰ.not-nil (rw g.running at q)) (λ w. Memᴰ.not-nil (rw g.nobody at w))
       ((keeps.refused_exactly xs _ es m s).0 refl))
 
-  finish-grants-nobody : (h : List Name) (xs : List Exchange) (es : List Entry) → Granted h (0 ∷ []) (account xs) → (r : Reply FinishReply)
+  finish_grants_nobody : (h : List Name) (xs : List Exchange) (es : List Entry) → Granted h (0 ∷ []) (account xs) → (r : Reply FinishReply)
       → Seen (xs ++ finished 0 r ∷ []) es → r ≡ done (record { examined = length (account xs).waiters; grants = none })
-  finish-grants-nobody h xs es g (done v) s =
+  finish_grants_nobody h xs es g (done v) s =
       ap done
-      (finished-alike (keeps.finish_answered xs es 0 v s)
+      (finished_alike (keeps.finish_answered xs es 0 v s)
       (record { hands = nobody_goes (λ d m. absurd (Memᴰ.not-nil (rw g.nobody at m))) refl; counts = all_of_them refl refl }))
-  finish-grants-nobody h xs es g (refused m) s =
+  finish_grants_nobody h xs es g (refused m) s =
       absurd (finish_not_due (omega arith) (rw g.running (Memᴰ.head refl)) ((keeps.refused_exactly xs _ es m s).0 refl))
 
   -- h can be granted, and leaves ts running and nobody waiting
   abbrev Reaches : List Name → List ℕ → Type 0
   Reaches h ts = (xs : List Exchange) × (es : List Entry) × Seen xs es × Granted h ts (account xs)
 
-  ask-reaches : (h : List Name) (n : Name) → Known (key n) → Permitted (h ++ key n ∷ []) → Reaches h [] → Reaches (h ++ key n ∷ []) (0 ∷ [])
-  ask-reaches h n k p (xs, es, s, g) =
-      let (r, after, a) = one-more-call keeps s (ask 0 n) in (
+  ask_reaches : (h : List Name) (n : Name) → Known (key n) → Permitted (h ++ key n ∷ []) → Reaches h [] → Reaches (h ++ key n ∷ []) (0 ∷ [])
+  ask_reaches h n k p (xs, es, s, g) =
+      let (r, after, a) = one_more_call keeps s (ask 0 n) in (
         xs ++ asked 0 n (done granted) ∷ [],
         after,
-        subst (λ q. Seen (xs ++ asked 0 n q ∷ []) after) (ask-is-granted h n k p xs after g r a) a,
+        subst (λ q. Seen (xs ++ asked 0 n q ∷ []) after) (ask_is_granted h n k p xs after g r a) a,
         rw account_on (granted_more h (account xs) n g),
       )
 
-  finish-reaches : (h : List Name) → Reaches h (0 ∷ []) → Reaches h []
-  finish-reaches h (xs, es, s, g) =
-      let (r, after, a) = one-more-call keeps s (finish 0) in (
+  finish_reaches : (h : List Name) → Reaches h (0 ∷ []) → Reaches h []
+  finish_reaches h (xs, es, s, g) =
+      let (r, after, a) = one_more_call keeps s (finish 0) in (
         _,
         after,
-        subst (λ q. Seen (xs ++ finished 0 q ∷ []) after) (finish-grants-nobody h xs after g r a) a,
+        subst (λ q. Seen (xs ++ finished 0 q ∷ []) after) (finish_grants_nobody h xs after g r a) a,
         rw account_on (granted_finished h (account xs) _ g),
       )
 
   -- hs is the history, its end first
-  all-reached : ((h : List Name) (k : Name) → Permitted (h ++ k ∷ []) → Permitted h × Known k × ((n : Name) × (key n ≡ k)))
+  all_reached : ((h : List Name) (k : Name) → Permitted (h ++ k ∷ []) → Permitted h × Known k × ((n : Name) × (key n ≡ k)))
       → (hs : List Name) → Permitted (reverse hs) → Reaches (reverse hs) []
   unfolding account hear_all
-  all-reached closed [] p = let (es, s) = no-calls keeps in ([], es, s, record { names = refl; running = refl; nobody = refl })
-  all-reached closed (k ∷ hs) p =
+  all_reached closed [] p = let (es, s) = no_calls keeps in ([], es, s, record { names = refl; running = refl; nobody = refl })
+  all_reached closed (k ∷ hs) p =
       let p' : Permitted (reverse hs ++ k ∷ []) = rw reverse-cons at p in
       let (before, known, (n, q)) = closed (reverse hs) k p' in
-      rw (reverse-cons, ← q) (finish-reaches _ (ask-reaches (reverse hs) n (rw q known) (rw q p') (all-reached closed hs before)))
+      rw (reverse-cons, ← q) (finish_reaches _ (ask_reaches (reverse hs) n (rw q known) (rw q p') (all_reached closed hs before)))
 
 pub permitted_can_be_granted : PermittedCanBeGranted
 permitted_can_be_granted Seen Permitted Known keeps closed h p =
-    let (xs, es, s, g) = all-reached keeps closed (reverse h) (rw reverse-reverse p) in
+    let (xs, es, s, g) = all_reached keeps closed (reverse h) (rw reverse-reverse p) in
     (xs, es, s, g.names ∙ reverse-reverse h)

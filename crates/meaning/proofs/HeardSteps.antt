@@ -16,7 +16,7 @@ use Rattle.meaning.specs.LinePromises.{Says}
 use Rattle.meaning.specs.Demand.{Runs, Waits, Asked, Handed, Withdrawn}
 use Rattle.meaning.specs.Demand.Asked.{is_granted, is_delayed}
 use Rattle.meaning.specs.Demand.Handed.{longest_goes, nobody_goes}
-use Rattle.meaning.proofs.WaitingLaws.{Fails, member_around, Distinct, distinct_without, distinct_with, own-entry, without-own, fails_with}
+use Rattle.meaning.proofs.WaitingLaws.{Fails, member_around, Distinct, distinct_without, distinct_with, own_entry, without_own, fails_with}
 use Rattle.meaning.proofs.HeardCounts.{count_append, count_between}
 use Rattle.meaning.proofs.LineAnswers.{less_unfinished}
 
@@ -31,9 +31,9 @@ module _ (permitted : List Name → Bool) where
         ≡ count n (granted_names a) + count n (names_of a.withdrawals) + count n (names_of a.waiters)
 
   module _ (a : Account) (s : Sound a) where
-    pub asked-sound : (t : ℕ) (n : Name) {r : AskReply} → ¬ Waits a t → Asked (Says permitted) a (key n) r → Sound (hear a (asked t n (done r)))
+    pub asked_sound : (t : ℕ) (n : Name) {r : AskReply} → ¬ Waits a t → Asked (Says permitted) a (key n) r → Sound (hear a (asked t n (done r)))
     unfolding hear hear_granted hear_delayed
-    asked-sound t n w (is_granted q g) =
+    asked_sound t n w (is_granted q g) =
         record {
           one = rw q (omega arith);
           distinct = s.distinct;
@@ -41,7 +41,7 @@ module _ (permitted : List Name → Bool) where
           settled = λ e. absurd (append-ne-nil_of_right_ne-nil a.unfinished (λ z. cons≢nil z) e);
           conserved = λ k. simp (map-append, count_append) (omega (arith, s.conserved k));
         }
-    asked-sound t n w (is_delayed d) =
+    asked_sound t n w (is_delayed d) =
         record {
           one = s.one;
           distinct = rw map-append (distinct_with (terminals_of a.waiters) t s.distinct w);
@@ -50,10 +50,10 @@ module _ (permitted : List Name → Bool) where
           conserved = λ k. simp (map-append, count_append) (omega (arith, s.conserved k));
         }
 
-    pub finished-sound : (t : ℕ) (r : FinishReply) → Runs a t → Handed (Says permitted) a r.grants → Sound (hear a (finished t (done r)))
+    pub finished_sound : (t : ℕ) (r : FinishReply) → Runs a t → Handed (Says permitted) a r.grants → Sound (hear a (finished t (done r)))
     unfolding hear hear_finished
-    finished-sound t r m (longest_goes ahead after e l o p g) =
-        rw (g, less_unfinished t a.unfinished s.one m, own-entry ahead after e l s.distinct, without-own ahead after e l)
+    finished_sound t r m (longest_goes ahead after e l o p g) =
+        rw (g, less_unfinished t a.unfinished s.one m, own_entry ahead after e l s.distinct, without_own ahead after e l)
         (record {
           one = omega arith;
           distinct = distinct_without ahead after e l s.distinct;
@@ -61,16 +61,16 @@ module _ (permitted : List Name → Bool) where
           settled = λ z. absurd (cons≢nil z);
           conserved = λ k. simp (map-append, count_append) (omega (arith, s.conserved k, count_between k ahead after e l));
         })
-    finished-sound t r m (nobody_goes f g) =
+    finished_sound t r m (nobody_goes f g) =
         rw (g, less_unfinished t a.unfinished s.one m)
         (record { one = omega arith; distinct = s.distinct; lawful = s.lawful; settled = λ z. f; conserved = s.conserved })
 
-    pub withdrawn-sound : (t p : ℕ) → Withdrawn a t p → Sound (hear a (withdrew t (done p)))
+    pub withdrawn_sound : (t p : ℕ) → Withdrawn a t p → Sound (hear a (withdrew t (done p)))
     unfolding hear hear_withdrawn
-    withdrawn-sound t p w =
+    withdrawn_sound t p w =
         let q : entry_of t a.waiters ≡ at (length w.ahead) w.entry =
-        rw (← w.own) (own-entry w.ahead w.after w.entry w.listed s.distinct) in
-        rw (q, without-own w.ahead w.after w.entry w.listed)
+        rw (← w.own) (own_entry w.ahead w.after w.entry w.listed s.distinct) in
+        rw (q, without_own w.ahead w.after w.entry w.listed)
         (record {
           one = s.one;
           distinct = distinct_without w.ahead w.after w.entry w.listed s.distinct;

@@ -20,7 +20,7 @@ use Rattle.meaning.proofs.WordLaws.{repeated_once, some_word}
 use Rattle.meaning.proofs.Rests.{Rest, Inside, which_part, positions_inside}
 use Rattle.meaning.proofs.Onward.{Goes, word_starts, starts_word, rest_continues, continues_rest}
 use Rattle.meaning.proofs.RowLaws.{row_at_told, row_cells}
-use Rattle.meaning.proofs.Walks.{permits-walk, walk-permits, kept-permits, permits-kept}
+use Rattle.meaning.proofs.Walks.{permits_walk, walk_permits, kept_permits, permits_kept}
 
 -- every rest can be completed
 pub some_rest : (e : Expr) (lo p : ℕ) → Inside lo (size e) p → (w : List Name) × Rest e lo p w
@@ -43,51 +43,51 @@ some_rest (star a) lo p i = let r = some_rest a lo p i in (r.0 ++ [], (r.0, [], 
 
 module _ (e : Expr) where
   -- what goes on with k and then h is walked through k and h, if what comes after a position is walked through h
-  goes-walk : (s : ℕ) (h w : List Name) (k : Name)
+  goes_walk : (s : ℕ) (h w : List Name) (k : Name)
       → ((p : ℕ) → Rest (star e) 0 p (h ++ w) → Walk (rows e) (permission e) (get_or (rows e) p 0) h)
       → Goes s (positions_of (star e) 0) (Rest (star e) 0) (k ∷ (h ++ w)) → Walk (rows e) (permission e) s (k ∷ h)
   unfolding Walk permission positions_of
-  goes-walk s h w k walks (k', v, p, d, i, j, r) =
+  goes_walk s h w k walks (k', v, p, d, i, j, r) =
       (p, i, rw (head-eq_of_cons-eq d) j, walks p (rw (tail-eq_of_cons-eq d) r))
 
-  rest-walk : (h w : List Name) (p : ℕ) → Rest (star e) 0 p (h ++ w) → Walk (rows e) (permission e) (get_or (rows e) p 0) h
+  rest_walk : (h w : List Name) (p : ℕ) → Rest (star e) 0 p (h ++ w) → Walk (rows e) (permission e) (get_or (rows e) p 0) h
   unfolding Walk
-  rest-walk [] w p r = tt
-  rest-walk (k ∷ h) w p r =
+  rest_walk [] w p r = tt
+  rest_walk (k ∷ h) w p r =
       ⊎_elim
       (λ c. absurd (cons≢nil c.1))
-      (λ g. goes-walk (get_or (rows e) p 0) h w k (rest-walk h w) (rw (row_cells e p) g))
+      (λ g. goes_walk (get_or (rows e) p 0) h w k (rest_walk h w) (rw (row_cells e p) g))
       (rest_continues (star e) 0 p (k ∷ (h ++ w)) r)
 
-  begins-walk : (h : List Name) → Begins e h → Walk (rows e) (permission e) (start e) h
+  begins_walk : (h : List Name) → Begins e h → Walk (rows e) (permission e) (start e) h
   unfolding Walk start first
-  begins-walk [] b = tt
-  begins-walk (k ∷ h) (w, d) =
+  begins_walk [] b = tt
+  begins_walk (k ∷ h) (w, d) =
       ⊎_elim
       (λ c. absurd (cons≢nil c.1))
-      (goes-walk (start e) h w k (rest-walk h w))
+      (goes_walk (start e) h w k (rest_walk h w))
       (word_starts (star e) 0 (k ∷ (h ++ w)) d)
 
   -- a walk through h after p can be completed to a rest
-  walk-rest : (h : List Name) (p : ℕ) → Inside 0 (size e) p → Walk (rows e) (permission e) (get_or (rows e) p 0) h
+  walk_rest : (h : List Name) (p : ℕ) → Inside 0 (size e) p → Walk (rows e) (permission e) (get_or (rows e) p 0) h
       → (w : List Name) × Rest (star e) 0 p (h ++ w)
   unfolding Walk permission positions_of size
-  walk-rest [] p i t = some_rest (star e) 0 p i
-  walk-rest (k ∷ h) p i (q, l, j, t) =
-      let r = walk-rest h q (positions_inside e 0 q k j) t in
+  walk_rest [] p i t = some_rest (star e) 0 p i
+  walk_rest (k ∷ h) p i (q, l, j, t) =
+      let r = walk_rest h q (positions_inside e 0 q k j) t in
       (r.0, continues_rest (star e) 0 p (k ∷ (h ++ r.0)) (inr (k, h ++ r.0, q, refl, rw (row_cells e p) at l, j, r.1)))
 
-  walk-begins-of : (h : List Name) → Walk (rows e) (permission e) (start e) h → Begins e h
+  walk_begins_of : (h : List Name) → Walk (rows e) (permission e) (start e) h → Begins e h
   unfolding Walk start first permission positions_of Word
-  walk-begins-of [] t = ([], none refl)
-  walk-begins-of (k ∷ h) (p, i, j, t) =
-      let r = walk-rest h p (positions_inside e 0 p k j) t in
+  walk_begins_of [] t = ([], none refl)
+  walk_begins_of (k ∷ h) (p, i, j, t) =
+      let r = walk_rest h p (positions_inside e 0 p k j) t in
       (r.0, starts_word (star e) 0 (k ∷ (h ++ r.0)) (inr (k, h ++ r.0, p, refl, i, j, r.1)))
 
   -- after every position something follows, and something comes first
-  pub row-not-empty : (p : ℕ) → Inside 0 (size e) p → row e p ≢ 0
+  pub row_not_empty : (p : ℕ) → Inside 0 (size e) p → row e p ≢ 0
   unfolding Rest row follows
-  row-not-empty p i =
+  row_not_empty p i =
       let r = some_rest e 0 p i in
       let x = some_word e in
       ⊎_elim
@@ -95,9 +95,9 @@ module _ (e : Expr) where
       (λ (k, v, q, d, l, j, s). member_not_none q (row e p) l)
       (rest_continues (star e) 0 p (r.0 ++ x.0 ∷ x.1) (r.0, x.0 ∷ x.1, r.1, repeated_once (Word e) (x.0 ∷ x.1) x.2, refl))
 
-  pub start-not-empty : start e ≢ 0
+  pub start_not_empty : start e ≢ 0
   unfolding start
-  start-not-empty =
+  start_not_empty =
       let x = some_word e in
       ⊎_elim
       (λ c. absurd (cons≢nil c.1))
@@ -108,19 +108,19 @@ module _ (e : Expr) where
   unfolding permission
   lively p k j =
       let i = positions_inside e 0 p k j in
-      rw (row_at_told e p (omega arith)) (row-not-empty p i)
+      rw (row_at_told e p (omega arith)) (row_not_empty p i)
 
 pub walk_begins : WalkBegins
-walk_begins e h = (walk-begins-of e h, begins-walk e h)
+walk_begins e h = (walk_begins_of e h, begins_walk e h)
 
 pub permits_begins : PermitsBegins
 permits_begins e h = (
-  λ t. walk-begins-of e h (permits-walk (rows e) (permission e) (start e) h t),
-  λ b. walk-permits (rows e) (permission e) (start e) h (begins-walk e h b),
+  λ t. walk_begins_of e h (permits_walk (rows e) (permission e) (start e) h t),
+  λ b. walk_permits (rows e) (permission e) (start e) h (begins_walk e h b),
 )
 
 pub set_begins : SetBegins
 set_begins e h = (
-  λ n. (permits_begins e h).0 (kept-permits (rows e) (permission e) (start e) h n),
-  λ b. permits-kept (rows e) (permission e) (lively e) (start e) h (start-not-empty e) ((permits_begins e h).1 b),
+  λ n. (permits_begins e h).0 (kept_permits (rows e) (permission e) (start e) h n),
+  λ b. permits_kept (rows e) (permission e) (lively e) (start e) h (start_not_empty e) ((permits_begins e h).1 b),
 )

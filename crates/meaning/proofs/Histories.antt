@@ -7,17 +7,17 @@ use Prim.Native.Nat.{ℕ}
 use lib.Bits.{bit_and}
 use Rattle.meaning.specs.Names.{Name}
 use Rattle.meaning.specs.Sets.{meeting, union_of}
-use Rattle.meaning.specs.Following.{setAfter, permits}
+use Rattle.meaning.specs.Following.{set_after, permits}
 
 module _ (rows : List ℕ) (permission : Name → ℕ) where
-  pub set-with : (s : ℕ) (h : List Name) (k : Name)
-      → setAfter rows permission s (h ++ k ∷ []) ≡ union_of rows (bit_and (setAfter rows permission s h) (permission k))
-  unfolding setAfter
-  set-with s [] k = refl
-  set-with s (j ∷ h) k = set-with (union_of rows (bit_and s (permission j))) h k
+  pub set_with : (s : ℕ) (h : List Name) (k : Name)
+      → set_after rows permission s (h ++ k ∷ []) ≡ union_of rows (bit_and (set_after rows permission s h) (permission k))
+  unfolding set_after
+  set_with s [] k = refl
+  set_with s (j ∷ h) k = set_with (union_of rows (bit_and s (permission j))) h k
 
-  pub permits-with : (s : ℕ) (h : List Name) (k : Name)
-      → permits rows permission s (h ++ k ∷ []) ≡ (permits rows permission s h && meeting (setAfter rows permission s h) (permission k))
-  unfolding setAfter permits
-  permits-with s [] k = and-true (meeting s (permission k))
-  permits-with s (j ∷ h) k = rw (permits-with (union_of rows (bit_and s (permission j))) h k) (sym (and_assoc (meeting s (permission j)) _ _))
+  pub permits_with : (s : ℕ) (h : List Name) (k : Name)
+      → permits rows permission s (h ++ k ∷ []) ≡ (permits rows permission s h && meeting (set_after rows permission s h) (permission k))
+  unfolding set_after permits
+  permits_with s [] k = and-true (meeting s (permission k))
+  permits_with s (j ∷ h) k = rw (permits_with (union_of rows (bit_and s (permission j))) h k) (sym (and_assoc (meeting s (permission j)) _ _))

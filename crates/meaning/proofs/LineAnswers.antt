@@ -23,7 +23,7 @@ use Rattle.meaning.specs.Demand.{Runs, Waits, Asked, Handed, Examined, Withdrawn
 use Rattle.meaning.specs.Demand.Asked.{is_granted, is_delayed}
 use Rattle.meaning.specs.Demand.Handed.{longest_goes, nobody_goes}
 use Rattle.meaning.specs.Demand.Examined.{up_to_the_granted, all_of_them}
-use Rattle.meaning.proofs.WaitingLaws.{not_true, Finds, seek_finds, waits_reads, Distinct, own-entry, none-own-ahead, put_last}
+use Rattle.meaning.proofs.WaitingLaws.{not_true, Finds, seek_finds, waits_reads, Distinct, own_entry, none_own_ahead, put_last}
 
 -- the entry that an ask makes
 abbrev pub asking : ℕ → Name → Entry
@@ -41,43 +41,43 @@ module _ (permitted : List Name → Bool) (known : Name → Bool) (a : Account) 
   abbrev Answers : ℕ → Name → AskReply × Line → Type 0
   Answers t n r = Asked (Says permitted) a (key n) r.0 × (r.1 ≡ line_of (hear a (asked t n (done r.0))))
 
-  ask-goes : (t : ℕ) (n : Name) (us : List ℕ) (goes : Bool) → a.unfinished ≡ us → permitted (granted_names a ++ key n ∷ []) ≡ goes
+  ask_goes : (t : ℕ) (n : Name) (us : List ℕ) (goes : Bool) → a.unfinished ≡ us → permitted (granted_names a ++ key n ∷ []) ≡ goes
       → Answers t n
       (cond (free (unfinished_in us) && goes) (granted, granting (line_of a) (asking t n) a.waiters) (
         delayed (length a.waiters),
         record { history = granted_names a; running = unfinished_in a.unfinished; waiting = put (length a.waiters) (asking t n) a.waiters },
       ))
   unfolding hear hear_granted hear_delayed
-  ask-goes t n [] true q e = (is_granted q e, rw (q, map-append))
-  ask-goes t n [] false q e = (is_delayed (λ z. not_true e), rw put_last)
-  ask-goes t n (u ∷ us) g q e = (is_delayed (λ z. absurd (cons≢nil (sym q ∙ z))), rw put_last)
+  ask_goes t n [] true q e = (is_granted q e, rw (q, map-append))
+  ask_goes t n [] false q e = (is_delayed (λ z. not_true e), rw put_last)
+  ask_goes t n (u ∷ us) g q e = (is_delayed (λ z. absurd (cons≢nil (sym q ∙ z))), rw put_last)
 
-  pub ask-answers : (t : ℕ) (n : Name) → Answers t n (ask_step permitted known (line_of a) (asking t n))
+  pub ask_answers : (t : ℕ) (n : Name) → Answers t n (ask_step permitted known (line_of a) (asking t n))
   unfolding ask_step
-  ask-answers t n = ask-goes t n a.unfinished _ refl refl
+  ask_answers t n = ask_goes t n a.unfinished _ refl refl
 
-  pub finish-hands : (f : Found) → Finds (λ e. permitted (granted_names a ++ e.name ∷ [])) a.waiters f
+  pub finish_hands : (f : Found) → Finds (λ e. permitted (granted_names a ++ e.name ∷ [])) a.waiters f
       → Handed (Says permitted) a (finish_step permitted known (line_of a) f).0.grants
-  finish-hands nobody h = nobody_goes h refl
-  finish-hands (at p e) h = longest_goes h.ahead h.after e h.listed h.others h.passes refl
+  finish_hands nobody h = nobody_goes h refl
+  finish_hands (at p e) h = longest_goes h.ahead h.after e h.listed h.others h.passes refl
 
-  pub finish-counts : Distinct (terminals_of a.waiters) → (f : Found) → Finds (λ e. permitted (granted_names a ++ e.name ∷ [])) a.waiters f
+  pub finish_counts : Distinct (terminals_of a.waiters) → (f : Found) → Finds (λ e. permitted (granted_names a ++ e.name ∷ [])) a.waiters f
       → let r = (finish_step permitted known (line_of a) f).0 in Examined a r.grants r.examined
-  finish-counts d nobody h = all_of_them refl refl
-  finish-counts d (at p e) h =
-      up_to_the_granted h.ahead h.after e h.listed (none-own-ahead h.ahead h.after e h.listed d) refl (omega (arith, h.place))
+  finish_counts d nobody h = all_of_them refl refl
+  finish_counts d (at p e) h =
+      up_to_the_granted h.ahead h.after e h.listed (none_own_ahead h.ahead h.after e h.listed d) refl (omega (arith, h.place))
 
-  pub finish-leaves : (t : ℕ) → length a.unfinished ≤ 1 → Distinct (terminals_of a.waiters) → Runs a t
+  pub finish_leaves : (t : ℕ) → length a.unfinished ≤ 1 → Distinct (terminals_of a.waiters) → Runs a t
       → (f : Found) → Finds (λ e. permitted (granted_names a ++ e.name ∷ [])) a.waiters f
       → let r = finish_step permitted known (line_of a) f in r.1 ≡ line_of (hear a (finished t (done r.0)))
   unfolding hear hear_finished
-  finish-leaves t o d m nobody h = rw (less_unfinished t a.unfinished o m)
-  finish-leaves t o d m (at p e) h = rw (less_unfinished t a.unfinished o m, map-append, own-entry h.ahead h.after e h.listed d, h.place)
+  finish_leaves t o d m nobody h = rw (less_unfinished t a.unfinished o m)
+  finish_leaves t o d m (at p e) h = rw (less_unfinished t a.unfinished o m, map-append, own_entry h.ahead h.after e h.listed d, h.place)
 
-  withdraw-found : (t : ℕ) (f : Found) → Finds (λ e. eqb e.terminal t) a.waiters f → waits f ≡ true
+  withdraw_found_told : (t : ℕ) (f : Found) → Finds (λ e. eqb e.terminal t) a.waiters f → waits f ≡ true
       → Withdrawn a t (withdraw_step permitted known (line_of a) f).0
-  withdraw-found t nobody h e = absurd (false≢true e)
-  withdraw-found t (at p d) h e =
+  withdraw_found_told t nobody h e = absurd (false≢true e)
+  withdraw_found_told t (at p d) h e =
       record {
         ahead = h.ahead;
         entry = d;
@@ -88,15 +88,15 @@ module _ (permitted : List Name → Bool) (known : Name → Bool) (a : Account) 
         place = h.place;
       }
 
-  pub withdraw-answers : (t : ℕ) → Waits a t → Withdrawn a t (withdraw_step permitted known (line_of a) (entry_of t a.waiters)).0
-  withdraw-answers t w = withdraw-found t (entry_of t a.waiters) (seek_finds _ a.waiters) ((waits_reads t a.waiters).1 w)
+  pub withdraw_answers : (t : ℕ) → Waits a t → Withdrawn a t (withdraw_step permitted known (line_of a) (entry_of t a.waiters)).0
+  withdraw_answers t w = withdraw_found_told t (entry_of t a.waiters) (seek_finds _ a.waiters) ((waits_reads t a.waiters).1 w)
 
-  pub withdraw-leaves : (t : ℕ) → let r = withdraw_step permitted known (line_of a) (entry_of t a.waiters) in
+  pub withdraw_leaves : (t : ℕ) → let r = withdraw_step permitted known (line_of a) (entry_of t a.waiters) in
       r.1 ≡ line_of (hear a (withdrew t (done r.0)))
   unfolding hear hear_withdrawn
-  withdraw-leaves t = found-leaves (entry_of t a.waiters)
+  withdraw_leaves t = found_leaves (entry_of t a.waiters)
     where
-      found-leaves : (f : Found) → (withdraw_step permitted known (line_of a) f).1
+      found_leaves : (f : Found) → (withdraw_step permitted known (line_of a) f).1
           ≡ record { history = granted_names a; running = unfinished_in a.unfinished; waiting = gone a.waiters f }
-      found-leaves nobody = refl
-      found-leaves (at p e) = refl
+      found_leaves nobody = refl
+      found_leaves (at p e) = refl

@@ -22,7 +22,7 @@ use Rattle.meaning.specs.Demand.{Runs, Waits, Due}
 use Rattle.meaning.specs.Demand.Due.{above_63_asks, above_63_finishes, above_63_withdraws, no_such_operation}
 use Rattle.meaning.specs.Demand.Due.{asks_while_running, asks_while_waiting, finishes_not_running, withdraws_not_waiting}
 use Rattle.meaning.proofs.WaitingLaws.{not_true, waits_reads}
-use Rattle.meaning.proofs.RefusalCases.{refusal-cases}
+use Rattle.meaning.proofs.RefusalCases.{refusal_cases}
 
 -- a test that reads A is false exactly if A is not
 false_not : {b : Bool} {A : Type 0} → (b ≡ true) ↔ A → b ≡ false → ¬ A
@@ -54,9 +54,9 @@ module _ (permitted : List Name → Bool) (known : Name → Bool) (a : Account) 
   waiting : (t : ℕ) → (waits (entry_of t a.waiters) ≡ true) ↔ Waits a t
   waiting t = waits_reads t a.waiters
 
-  pub call-tested : (c : Call) → Tested known a c (refusal permitted known (line_of a) c)
-  call-tested =
-      refusal-cases permitted known (line_of a) (Tested known a)
+  pub call_tested : (c : Call) → Tested known a c (refusal permitted known (line_of a) c)
+  call_tested =
+      refusal_cases permitted known (line_of a) (Tested known a)
       (record {
         asks_above = above_63_asks;
         asks_unknown = λ t n h e. no_such_operation t n h (not_true e);
@@ -71,17 +71,17 @@ module _ (permitted : List Name → Bool) (known : Name → Bool) (a : Account) 
         withdraws_on = λ t h q. (waiting t).0 q;
       })
 
-  due-refused : {c : Call} {m : ℕ} → Due (Says known) a c m → refusal permitted known (line_of a) c ≡ some m
+  due_refused : {c : Call} {m : ℕ} → Due (Says known) a c m → refusal permitted known (line_of a) c ≡ some m
   unfolding refusal
-  due-refused (above_63_asks t n h) = rw (lt-ltb 63 t h)
-  due-refused (above_63_finishes t h) = rw (lt-ltb 63 t h)
-  due-refused (above_63_withdraws t h) = rw (lt-ltb 63 t h)
-  due-refused (no_such_operation t n h u) = rw (le-ltb 63 t h, not_false _ Iff.rfl u)
-  due-refused (asks_while_running t n h k r) = rw (le-ltb 63 t h, k, (running t).1 r)
-  due-refused (asks_while_waiting t n h k r w) =
+  due_refused (above_63_asks t n h) = rw (lt-ltb 63 t h)
+  due_refused (above_63_finishes t h) = rw (lt-ltb 63 t h)
+  due_refused (above_63_withdraws t h) = rw (lt-ltb 63 t h)
+  due_refused (no_such_operation t n h u) = rw (le-ltb 63 t h, not_false _ Iff.rfl u)
+  due_refused (asks_while_running t n h k r) = rw (le-ltb 63 t h, k, (running t).1 r)
+  due_refused (asks_while_waiting t n h k r w) =
       rw (le-ltb 63 t h, k, not_false _ (running t) r, (waiting t).1 w)
-  due-refused (finishes_not_running t h r) = rw (le-ltb 63 t h, not_false _ (running t) r)
-  due-refused (withdraws_not_waiting t h w) = rw (le-ltb 63 t h, not_false _ (waiting t) w)
+  due_refused (finishes_not_running t h r) = rw (le-ltb 63 t h, not_false _ (running t) r)
+  due_refused (withdraws_not_waiting t h w) = rw (le-ltb 63 t h, not_false _ (waiting t) w)
 
-  pub refused-if-due : (c : Call) (m : ℕ) → (refusal permitted known (line_of a) c ≡ some m) ↔ Due (Says known) a c m
-  refused-if-due c m = (λ e. subst (Tested known a c) e (call-tested c), due-refused)
+  pub refused_if_due : (c : Call) (m : ℕ) → (refusal permitted known (line_of a) c ≡ some m) ↔ Due (Says known) a c m
+  refused_if_due c m = (λ e. subst (Tested known a c) e (call_tested c), due_refused)

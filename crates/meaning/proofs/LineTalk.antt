@@ -16,56 +16,56 @@ tested_tells l none r = refl
 tested_tells l (some m) r = refl
 
 module _ (permitted : List Name → Bool) (known : Name → Bool) where
-  pub step-tells : (l : Line) (c : Call) → refusal_in (step permitted known l c).0 ≡ refusal permitted known l c
+  pub step_tells : (l : Line) (c : Call) → refusal_in (step permitted known l c).0 ≡ refusal permitted known l c
   unfolding step
-  step-tells l (ask t n) = tested_tells l _ _
-  step-tells l (finish t) = tested_tells l _ _
-  step-tells l (withdraw t) = tested_tells l _ _
+  step_tells l (ask t n) = tested_tells l _ _
+  step_tells l (finish t) = tested_tells l _ _
+  step_tells l (withdraw t) = tested_tells l _ _
 
-  refused-leaves : (l : Line) (c : Call) (m : ℕ) → refusal permitted known l c ≡ some m → (step permitted known l c).1 ≡ l
+  refused_leaves : (l : Line) (c : Call) (m : ℕ) → refusal permitted known l c ≡ some m → (step permitted known l c).1 ≡ l
   unfolding step
-  refused-leaves l (ask t n) m e = rw e
-  refused-leaves l (finish t) m e = rw e
-  refused-leaves l (withdraw t) m e = rw e
+  refused_leaves l (ask t n) m e = rw e
+  refused_leaves l (finish t) m e = rw e
+  refused_leaves l (withdraw t) m e = rw e
 
-  pub refused-changes-nothing : (l : Line) (c : Call) (m : ℕ) → refusal_in (step permitted known l c).0 ≡ some m
+  pub refused_changes_nothing : (l : Line) (c : Call) (m : ℕ) → refusal_in (step permitted known l c).0 ≡ some m
       → (step permitted known l c).1 ≡ l
-  refused-changes-nothing l c m e = refused-leaves l c m (rw step-tells at e)
+  refused_changes_nothing l c m e = refused_leaves l c m (rw step_tells at e)
 
-  pub talk-goes-on : (l : Line) (cs : List Call) (c : Call)
+  pub talk_goes_on : (l : Line) (cs : List Call) (c : Call)
       → talk permitted known l (cs ++ c ∷ []) ≡ talk permitted known l cs ++ (step permitted known (after permitted known l cs) c).0 ∷ []
   unfolding talk after
-  talk-goes-on l [] c = refl
-  talk-goes-on l (d ∷ cs) c = ap (λ (xs : List Exchange). (step permitted known l d).0 ∷ xs) (talk-goes-on (step permitted known l d).1 cs c)
+  talk_goes_on l [] c = refl
+  talk_goes_on l (d ∷ cs) c = ap (λ (xs : List Exchange). (step permitted known l d).0 ∷ xs) (talk_goes_on (step permitted known l d).1 cs c)
 
   -- an exchange shows its call, and a talk its calls
-  step-calls : (l : Line) (c : Call) → call_in (step permitted known l c).0 ≡ c
+  step_calls : (l : Line) (c : Call) → call_in (step permitted known l c).0 ≡ c
   unfolding step
-  step-calls l (ask t n) = refl
-  step-calls l (finish t) = refl
-  step-calls l (withdraw t) = refl
+  step_calls l (ask t n) = refl
+  step_calls l (finish t) = refl
+  step_calls l (withdraw t) = refl
 
-  pub talk-calls : (l : Line) (cs : List Call) → map call_in (talk permitted known l cs) ≡ cs
+  pub talk_calls : (l : Line) (cs : List Call) → map call_in (talk permitted known l cs) ≡ cs
   unfolding talk
-  talk-calls l [] = refl
-  talk-calls l (c ∷ cs) = ap₂ ◌∷◌ (step-calls l c) (talk-calls (step permitted known l c).1 cs)
+  talk_calls l [] = refl
+  talk_calls l (c ∷ cs) = ap₂ ◌∷◌ (step_calls l c) (talk_calls (step permitted known l c).1 cs)
 
   -- where exchanges come in two parts, so do their calls
-  pub talk-splits : (l : Line) (cs : List Call) (xs ys : List Exchange) → talk permitted known l cs ≡ xs ++ ys
+  pub talk_splits : (l : Line) (cs : List Call) (xs ys : List Exchange) → talk permitted known l cs ≡ xs ++ ys
       → (bs ds : List Call) × (talk permitted known l bs ≡ xs) × (talk permitted known (after permitted known l bs) ds ≡ ys)
   unfolding talk after
-  talk-splits l cs [] ys e = ([], cs, refl, e)
-  talk-splits l [] (x ∷ xs) ys e = absurd (nil≢cons e)
-  talk-splits l (c ∷ cs) (x ∷ xs) ys e =
-      let (bs, ds, p, q) = talk-splits (step permitted known l c).1 cs xs ys cc in
+  talk_splits l cs [] ys e = ([], cs, refl, e)
+  talk_splits l [] (x ∷ xs) ys e = absurd (nil≢cons e)
+  talk_splits l (c ∷ cs) (x ∷ xs) ys e =
+      let (bs, ds, p, q) = talk_splits (step permitted known l c).1 cs xs ys cc in
       (c ∷ bs, ds, cc, q)
 
   -- the first exchange is what its call is told
-  pub first-told : (l : Line) (cs : List Call) (x : Exchange) (xs : List Exchange) → talk permitted known l cs ≡ x ∷ xs
+  pub first_told : (l : Line) (cs : List Call) (x : Exchange) (xs : List Exchange) → talk permitted known l cs ≡ x ∷ xs
       → (step permitted known l (call_in x)).0 ≡ x
   unfolding talk
-  first-told l [] x xs e = absurd (nil≢cons e)
-  first-told l (c ∷ cs) x xs e = let h : (step permitted known l c).0 ≡ x = cc in rw (← h, step-calls)
+  first_told l [] x xs e = absurd (nil≢cons e)
+  first_told l (c ∷ cs) x xs e = let h : (step permitted known l c).0 ≡ x = cc in rw (← h, step_calls)
 
 pub same_histories_same_lines : SameHistoriesSameLines
 same_histories_same_lines permitted permitted' known known' p k l cs =

@@ -51,19 +51,19 @@ written_either ns ms lo p k (q, e, l, w) = go (below_or_not q (length ns))
 
 -- the positions of both parts of a sequence or a choice are written in both lists of names together
 module _ (a b : Expr) (lo p : ℕ) (k : Name) where
-  parts-written : (In p (positions_of a lo k) → Written (names a) lo p k)
+  parts_written : (In p (positions_of a lo k) → Written (names a) lo p k)
       → (In p (positions_of b (lo + size a) k) → Written (names b) (lo + size a) p k)
       → In p (bit_or (positions_of a lo k) (positions_of b (lo + size a) k)) → Written (names a ++ names b) lo p k
-  parts-written f g h =
+  parts_written f g h =
       ⊎_elim
       (λ l. written_left (names a) (names b) lo p k (f l))
       (λ r. written_right (names a) (names b) lo p k (rw (size_names a) at (g r)))
       ((in_union p (positions_of a lo k) (positions_of b (lo + size a) k)).0 h)
 
-  written-parts : (Written (names a) lo p k → In p (positions_of a lo k))
+  written_parts : (Written (names a) lo p k → In p (positions_of a lo k))
       → (Written (names b) (lo + size a) p k → In p (positions_of b (lo + size a) k))
       → Written (names a ++ names b) lo p k → In p (bit_or (positions_of a lo k) (positions_of b (lo + size a) k))
-  written-parts f g h =
+  written_parts f g h =
       (in_union p (positions_of a lo k) (positions_of b (lo + size a) k)).1
       (⊎_map f (λ r. g (rw (size_names a) r)) (written_either (names a) (names b) lo p k h))
 
@@ -73,8 +73,8 @@ positions_written (name n) lo p k h =
     let c = (in_cond (same (key n) k) p (2 ^ lo)).0 h in
     let e : p ≡ lo = (in_single p lo).0 c.1 in
     (0, omega arith, omega arith, same_equal (key n) k c.0)
-positions_written (seq a b) lo p k h = parts-written a b lo p k (positions_written a lo p k) (positions_written b (lo + size a) p k) h
-positions_written (choice a b) lo p k h = parts-written a b lo p k (positions_written a lo p k) (positions_written b (lo + size a) p k) h
+positions_written (seq a b) lo p k h = parts_written a b lo p k (positions_written a lo p k) (positions_written b (lo + size a) p k) h
+positions_written (choice a b) lo p k h = parts_written a b lo p k (positions_written a lo p k) (positions_written b (lo + size a) p k) h
 positions_written (star a) lo p k h = positions_written a lo p k h
 
 pub written_positions : (e : Expr) (lo p : ℕ) (k : Name) → Written (names e) lo p k → In p (positions_of e lo k)
@@ -82,8 +82,8 @@ unfolding positions_of names
 written_positions (name n) lo p k (zero, e, l, w) =
     (in_cond (same (key n) k) p (2 ^ lo)).1 (equal_same (key n) k w, (in_single p lo).1 (omega arith))
 written_positions (name n) lo p k (suc q, e, l, w) = absurd (omega arith)
-written_positions (seq a b) lo p k h = written-parts a b lo p k (written_positions a lo p k) (written_positions b (lo + size a) p k) h
-written_positions (choice a b) lo p k h = written-parts a b lo p k (written_positions a lo p k) (written_positions b (lo + size a) p k) h
+written_positions (seq a b) lo p k h = written_parts a b lo p k (written_positions a lo p k) (written_positions b (lo + size a) p k) h
+written_positions (choice a b) lo p k h = written_parts a b lo p k (written_positions a lo p k) (written_positions b (lo + size a) p k) h
 written_positions (star a) lo p k h = written_positions a lo p k h
 
 pub numbered_from_the_left : NumberedFromTheLeft

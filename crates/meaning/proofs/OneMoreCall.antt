@@ -41,12 +41,12 @@ last_call (y ∷ ys) (d ∷ cs) c q =
 
 module _ {Seen : List Exchange → List Entry → Type 0} {Permitted : List Name → Type 0} {Known : Name → Type 0}
     (keeps : Demand3 Seen Permitted Known) where
-  pub no-calls : (es : List Entry) × Seen [] es
-  no-calls = let (xs, es, h, q) = keeps.all_answered [] in (es, subst (λ ys. Seen ys es) ((map-eq-nil_iff call_in).0 q) h)
+  pub no_calls : (es : List Entry) × Seen [] es
+  no_calls = let (xs, es, h, q) = keeps.all_answered [] in (es, subst (λ ys. Seen ys es) ((map-eq-nil_iff call_in).0 q) h)
 
-  pub one-more-call : {xs : List Exchange} {es : List Entry} → Seen xs es → (c : Call)
+  pub one_more_call : {xs : List Exchange} {es : List Entry} → Seen xs es → (c : Call)
       → (r : ToldTo c) × (after : List Entry) × Seen (xs ++ told c r ∷ []) after
-  one-more-call {xs} {es} h c =
+  one_more_call {xs} {es} h c =
       let (ys, after, s, q) = keeps.all_answered (map call_in xs ++ c ∷ []) in
       let (zs, r, e, p) = last_call ys (map call_in xs) c q in
       let s' : Seen (zs ++ told c r ∷ []) after = subst (λ ws. Seen ws after) e s in

@@ -16,7 +16,7 @@ use Rattle.meaning.specs.Positions.{size, can_be_empty, first, last, follows, po
 use Rattle.meaning.proofs.NameLaws.{same_equal, same_self}
 use Rattle.meaning.proofs.SetLaws.{none_in, in_single, in_union, in_cond, either_true}
 use Rattle.meaning.proofs.WordLaws.{repeated_opens}
-use Rattle.meaning.proofs.Rests.{Rest, Inside, apart, in-first-seq, in-last-seq, in-follows-seq, in_follows_star}
+use Rattle.meaning.proofs.Rests.{Rest, Inside, apart, in_first_seq, in_last_seq, in_follows_seq, in_follows_star}
 use Rattle.meaning.proofs.Rests.{first_inside, follows_inside, positions_inside, rest_inside}
 
 -- w goes on with a name at a bit of s, and a rest after it
@@ -57,13 +57,13 @@ module _ (a b : Expr) (lo p : ℕ) (k : Name) where
   in_right : In p (positions_of b (lo + size a) k) → In p (bit_or (positions_of a lo k) (positions_of b (lo + size a) k))
   in_right h = (in_union p (positions_of a lo k) (positions_of b (lo + size a) k)).1 (inr h)
 
-  out-left : Inside lo (size a) p → In p (bit_or (positions_of a lo k) (positions_of b (lo + size a) k)) → In p (positions_of a lo k)
-  out-left i h =
+  out_left : Inside lo (size a) p → In p (bit_or (positions_of a lo k) (positions_of b (lo + size a) k)) → In p (positions_of a lo k)
+  out_left i h =
       left_only lo (size a) (size b) p i (positions_inside b (lo + size a) p k)
       ((in_union p (positions_of a lo k) (positions_of b (lo + size a) k)).0 h)
 
-  out-right : Inside (lo + size a) (size b) p → In p (bit_or (positions_of a lo k) (positions_of b (lo + size a) k)) → In p (positions_of b (lo + size a) k)
-  out-right i h =
+  out_right : Inside (lo + size a) (size b) p → In p (bit_or (positions_of a lo k) (positions_of b (lo + size a) k)) → In p (positions_of b (lo + size a) k)
+  out_right i h =
       right_only lo (size a) (size b) p i (positions_inside a lo p k)
       ((in_union p (positions_of a lo k) (positions_of b (lo + size a) k)).0 h)
 
@@ -78,10 +78,10 @@ word_starts (seq a b) lo w (u, v, wa, wb, e) =
     (λ (ta, eu). ⊎_elim
     (λ (tb, ev). inl ((and-eq-true_iff (can_be_empty a) (can_be_empty b)).1 (ta, tb), front v e eu ∙ ev))
     (λ (k, v', p, ev, i, j, r).
-    inr (k, v', p, front v e eu ∙ ev, (in-first-seq a b lo p).1 (inr (ta, i)), in_right a b lo p k j, inr r))
+    inr (k, v', p, front v e eu ∙ ev, (in_first_seq a b lo p).1 (inr (ta, i)), in_right a b lo p k j, inr r))
     (word_starts b (lo + size a) v wb))
     (λ (k, u', p, eu, i, j, r).
-    inr (k, u' ++ v, p, front v e eu, (in-first-seq a b lo p).1 (inl i), in_left a b lo p k j, inl (u', v, r, wb, refl)))
+    inr (k, u' ++ v, p, front v e eu, (in_first_seq a b lo p).1 (inl i), in_left a b lo p k j, inl (u', v, r, wb, refl)))
     (word_starts a lo u wa)
 word_starts (choice a b) lo w (inl wa) =
     ⊎_elim
@@ -113,15 +113,15 @@ starts_word (seq a b) lo w (inl (t, e)) =
     ([], [], starts_word a lo [] (inl (c.0, refl)), starts_word b (lo + size a) [] (inl (c.1, refl)), e)
 starts_word (seq a b) lo w (inr (k, v, p, e, i, j, inl (u, v', ra, wb, d))) =
     let here = rest_inside a lo p u ra in
-    let ia = left_only lo (size a) (size b) p here (λ c. first_inside b (lo + size a) p c.1) ((in-first-seq a b lo p).0 i) in
-    (k ∷ u, v', starts_word a lo (k ∷ u) (inr (k, u, p, refl, ia, out-left a b lo p k here j, ra)), wb, onto e d)
+    let ia = left_only lo (size a) (size b) p here (λ c. first_inside b (lo + size a) p c.1) ((in_first_seq a b lo p).0 i) in
+    (k ∷ u, v', starts_word a lo (k ∷ u) (inr (k, u, p, refl, ia, out_left a b lo p k here j, ra)), wb, onto e d)
 starts_word (seq a b) lo w (inr (k, v, p, e, i, j, inr rb)) =
     let here = rest_inside b (lo + size a) p v rb in
-    let ib = right_only lo (size a) (size b) p here (first_inside a lo p) ((in-first-seq a b lo p).0 i) in (
+    let ib = right_only lo (size a) (size b) p here (first_inside a lo p) ((in_first_seq a b lo p).0 i) in (
       [],
       k ∷ v,
       starts_word a lo [] (inl (ib.0, refl)),
-      starts_word b (lo + size a) (k ∷ v) (inr (k, v, p, refl, ib.1, out-right a b lo p k here j, rb)),
+      starts_word b (lo + size a) (k ∷ v) (inr (k, v, p, refl, ib.1, out_right a b lo p k here j, rb)),
       e,
     )
 starts_word (choice a b) lo w (inl (t, e)) =
@@ -132,11 +132,11 @@ starts_word (choice a b) lo w (inl (t, e)) =
 starts_word (choice a b) lo w (inr (k, v, p, e, i, j, inl ra)) =
     let here = rest_inside a lo p v ra in
     let ia = left_only lo (size a) (size b) p here (first_inside b (lo + size a) p) ((in_union p (first a lo) (first b (lo + size a))).0 i) in
-    inl (starts_word a lo w (inr (k, v, p, e, ia, out-left a b lo p k here j, ra)))
+    inl (starts_word a lo w (inr (k, v, p, e, ia, out_left a b lo p k here j, ra)))
 starts_word (choice a b) lo w (inr (k, v, p, e, i, j, inr rb)) =
     let here = rest_inside b (lo + size a) p v rb in
     let ib = right_only lo (size a) (size b) p here (first_inside a lo p) ((in_union p (first a lo) (first b (lo + size a))).0 i) in
-    inr (starts_word b (lo + size a) w (inr (k, v, p, e, ib, out-right a b lo p k here j, rb)))
+    inr (starts_word b (lo + size a) w (inr (k, v, p, e, ib, out_right a b lo p k here j, rb)))
 starts_word (star a) lo w (inl (t, e)) = none e
 starts_word (star a) lo w (inr (k, v, p, e, i, j, (u, v', ra, rep, d))) =
     more (k ∷ u) v' (starts_word a lo (k ∷ u) (inr (k, u, p, refl, i, j, ra))) rep (onto e d)
@@ -148,17 +148,17 @@ rest_continues (name n) lo p w (i, e) = inl ((in_single p lo).1 i, e)
 rest_continues (seq a b) lo p w (inl (u, v, ra, wb, e)) =
     ⊎_elim
     (λ (ta, eu). ⊎_elim
-    (λ (tb, ev). inl ((in-last-seq a b lo p).1 (inl (tb, ta)), front v e eu ∙ ev))
+    (λ (tb, ev). inl ((in_last_seq a b lo p).1 (inl (tb, ta)), front v e eu ∙ ev))
     (λ (k, v', q, ev, i, j, r).
-    inr (k, v', q, front v e eu ∙ ev, (in-follows-seq a b lo p q).1 (inr (inr (ta, i))), in_right a b lo q k j, inr r))
+    inr (k, v', q, front v e eu ∙ ev, (in_follows_seq a b lo p q).1 (inr (inr (ta, i))), in_right a b lo q k j, inr r))
     (word_starts b (lo + size a) v wb))
     (λ (k, u', q, eu, i, j, r).
-    inr (k, u' ++ v, q, front v e eu, (in-follows-seq a b lo p q).1 (inl i), in_left a b lo q k j, inl (u', v, r, wb, refl)))
+    inr (k, u' ++ v, q, front v e eu, (in_follows_seq a b lo p q).1 (inl i), in_left a b lo q k j, inl (u', v, r, wb, refl)))
     (rest_continues a lo p u ra)
 rest_continues (seq a b) lo p w (inr rb) =
     ⊎_elim
-    (λ (tb, e). inl ((in-last-seq a b lo p).1 (inr tb), e))
-    (λ (k, v, q, e, i, j, r). inr (k, v, q, e, (in-follows-seq a b lo p q).1 (inr (inl i)), in_right a b lo q k j, inr r))
+    (λ (tb, e). inl ((in_last_seq a b lo p).1 (inr tb), e))
+    (λ (k, v, q, e, i, j, r). inr (k, v, q, e, (in_follows_seq a b lo p q).1 (inr (inl i)), in_right a b lo q k j, inr r))
     (rest_continues b (lo + size a) p w rb)
 rest_continues (choice a b) lo p w (inl ra) =
     ⊎_elim
@@ -190,19 +190,19 @@ continues_rest (seq a b) lo p w (inl (t, e)) =
     ⊎_elim
     (λ (tb, ta). inl ([], [], continues_rest a lo p [] (inl (ta, refl)), starts_word b (lo + size a) [] (inl (tb, refl)), e))
     (λ tb. inr (continues_rest b (lo + size a) p w (inl (tb, e))))
-    ((in-last-seq a b lo p).0 t)
+    ((in_last_seq a b lo p).0 t)
 continues_rest (seq a b) lo p w (inr (k, v, q, e, i, j, inl (u, v', ra, wb, d))) =
     let here = rest_inside a lo q u ra in
     let ia = left_only lo (size a) (size b) q here
-    (⊎_elim (follows_inside b (lo + size a) p q) (λ c. first_inside b (lo + size a) q c.1)) ((in-follows-seq a b lo p q).0 i) in
-    inl (k ∷ u, v', continues_rest a lo p (k ∷ u) (inr (k, u, q, refl, ia, out-left a b lo q k here j, ra)), wb, onto e d)
+    (⊎_elim (follows_inside b (lo + size a) p q) (λ c. first_inside b (lo + size a) q c.1)) ((in_follows_seq a b lo p q).0 i) in
+    inl (k ∷ u, v', continues_rest a lo p (k ∷ u) (inr (k, u, q, refl, ia, out_left a b lo q k here j, ra)), wb, onto e d)
 continues_rest (seq a b) lo p w (inr (k, v, q, e, i, j, inr rb)) =
     let here = rest_inside b (lo + size a) q v rb in
-    let jb = out-right a b lo q k here j in
+    let jb = out_right a b lo q k here j in
     ⊎_elim
     (λ ib. inr (continues_rest b (lo + size a) p w (inr (k, v, q, e, ib, jb, rb))))
     (λ (ta, ib). inl ([], w, continues_rest a lo p [] (inl (ta, refl)), starts_word b (lo + size a) w (inr (k, v, q, e, ib, jb, rb)), refl))
-    (right_only lo (size a) (size b) q here (follows_inside a lo p q) ((in-follows-seq a b lo p q).0 i))
+    (right_only lo (size a) (size b) q here (follows_inside a lo p q) ((in_follows_seq a b lo p q).0 i))
 continues_rest (choice a b) lo p w (inl (t, e)) =
     ⊎_elim
     (λ ta. inl (continues_rest a lo p w (inl (ta, e))))
@@ -212,12 +212,12 @@ continues_rest (choice a b) lo p w (inr (k, v, q, e, i, j, inl ra)) =
     let here = rest_inside a lo q v ra in
     let ia = left_only lo (size a) (size b) q here (follows_inside b (lo + size a) p q)
     ((in_union q (follows a lo p) (follows b (lo + size a) p)).0 i) in
-    inl (continues_rest a lo p w (inr (k, v, q, e, ia, out-left a b lo q k here j, ra)))
+    inl (continues_rest a lo p w (inr (k, v, q, e, ia, out_left a b lo q k here j, ra)))
 continues_rest (choice a b) lo p w (inr (k, v, q, e, i, j, inr rb)) =
     let here = rest_inside b (lo + size a) q v rb in
     let ib = right_only lo (size a) (size b) q here (follows_inside a lo p q)
     ((in_union q (follows a lo p) (follows b (lo + size a) p)).0 i) in
-    inr (continues_rest b (lo + size a) p w (inr (k, v, q, e, ib, out-right a b lo q k here j, rb)))
+    inr (continues_rest b (lo + size a) p w (inr (k, v, q, e, ib, out_right a b lo q k here j, rb)))
 continues_rest (star a) lo p w (inl (t, e)) = ([], [], continues_rest a lo p [] (inl (t, refl)), none refl, e)
 continues_rest (star a) lo p w (inr (k, v, q, e, i, j, (u, v', ra, rep, d))) =
     ⊎_elim

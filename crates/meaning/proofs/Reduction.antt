@@ -84,16 +84,16 @@ sum_behind h k = left _ (turned (rule (factor_left _ _ _))) ▸ sum h k
 ruleset parts = (itself, of_left, of_right, both)
 
 module _ (a b c p q r : Expr) where
-  longer-in-shorter : Part (longer a b c p q r) (shorter a b c p q r)
-  longer-in-shorter = search (sum, parts) depth 12
+  longer_in_shorter : Part (longer a b c p q r) (shorter a b c p q r)
+  longer_in_shorter = search (sum, parts) depth 12
 
   -- each of the nine products is in one of the six terms
-  shorter-in-longer : Part (shorter a b c p q r) (longer a b c p q r)
-  shorter-in-longer =
+  shorter_in_longer : Part (shorter a b c p q r) (longer a b c p q r)
+  shorter_in_longer =
       sum_before (sum_before
       (sum_behind (sum_behind (search parts depth 8) (search parts depth 8)) (search parts depth 8))
       (sum_behind (sum_behind (search parts depth 8) (search parts depth 8)) (search parts depth 8)))
       (sum_behind (sum_behind (search parts depth 8) (search parts depth 8)) (search parts depth 8))
 
 pub longer_rewritten : LongerRewritten
-longer_rewritten a b c p q r = part_of_each_other (longer-in-shorter a b c p q r) (shorter-in-longer a b c p q r)
+longer_rewritten a b c p q r = part_of_each_other (longer_in_shorter a b c p q r) (shorter_in_longer a b c p q r)

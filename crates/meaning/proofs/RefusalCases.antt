@@ -30,29 +30,29 @@ pub record Cases (known : Name → Bool) (l : Line) (Verdict : Call → Option �
   pub withdraws_on : (t : ℕ) → t ≤ 63 → waits (entry_of t l.waiting) ≡ true → Verdict (withdraw t) none
 
 module _ (permitted : List Name → Bool) (known : Name → Bool) (l : Line) (Verdict : Call → Option ℕ → Type 0) (cases : Cases known l Verdict) where
-  ask-cases : (t : ℕ) (n : Name) (high knows own listed : Bool) → ltb 63 t ≡ high → known (key n) ≡ knows
+  ask_cases : (t : ℕ) (n : Name) (high knows own listed : Bool) → ltb 63 t ≡ high → known (key n) ≡ knows
       → runs l.running t ≡ own → waits (entry_of t l.waiting) ≡ listed
       → Verdict (ask t n) (cond high (some 10) (cond (not knows) (some 11) (cond own (some 12) (cond listed (some 13) none))))
-  ask-cases t n true k o w h e r q = cases.asks_above t n (ltb-true 63 t h)
-  ask-cases t n false false o w h e r q = cases.asks_unknown t n (ltb-false 63 t h) e
-  ask-cases t n false true true w h e r q = cases.asks_running t n (ltb-false 63 t h) e r
-  ask-cases t n false true false true h e r q = cases.asks_waiting t n (ltb-false 63 t h) e r q
-  ask-cases t n false true false false h e r q = cases.asks_on t n (ltb-false 63 t h) e r q
+  ask_cases t n true k o w h e r q = cases.asks_above t n (ltb-true 63 t h)
+  ask_cases t n false false o w h e r q = cases.asks_unknown t n (ltb-false 63 t h) e
+  ask_cases t n false true true w h e r q = cases.asks_running t n (ltb-false 63 t h) e r
+  ask_cases t n false true false true h e r q = cases.asks_waiting t n (ltb-false 63 t h) e r q
+  ask_cases t n false true false false h e r q = cases.asks_on t n (ltb-false 63 t h) e r q
 
-  finish-cases : (t : ℕ) (high own : Bool) → ltb 63 t ≡ high → runs l.running t ≡ own
+  finish_cases : (t : ℕ) (high own : Bool) → ltb 63 t ≡ high → runs l.running t ≡ own
       → Verdict (finish t) (cond high (some 10) (cond (not own) (some 14) none))
-  finish-cases t true o h r = cases.finishes_above t (ltb-true 63 t h)
-  finish-cases t false false h r = cases.finishes_idle t (ltb-false 63 t h) r
-  finish-cases t false true h r = cases.finishes_on t (ltb-false 63 t h) r
+  finish_cases t true o h r = cases.finishes_above t (ltb-true 63 t h)
+  finish_cases t false false h r = cases.finishes_idle t (ltb-false 63 t h) r
+  finish_cases t false true h r = cases.finishes_on t (ltb-false 63 t h) r
 
-  withdraw-cases : (t : ℕ) (high listed : Bool) → ltb 63 t ≡ high → waits (entry_of t l.waiting) ≡ listed
+  withdraw_cases : (t : ℕ) (high listed : Bool) → ltb 63 t ≡ high → waits (entry_of t l.waiting) ≡ listed
       → Verdict (withdraw t) (cond high (some 10) (cond (not listed) (some 15) none))
-  withdraw-cases t true w h q = cases.withdraws_above t (ltb-true 63 t h)
-  withdraw-cases t false false h q = cases.withdraws_absent t (ltb-false 63 t h) q
-  withdraw-cases t false true h q = cases.withdraws_on t (ltb-false 63 t h) q
+  withdraw_cases t true w h q = cases.withdraws_above t (ltb-true 63 t h)
+  withdraw_cases t false false h q = cases.withdraws_absent t (ltb-false 63 t h) q
+  withdraw_cases t false true h q = cases.withdraws_on t (ltb-false 63 t h) q
 
-  pub refusal-cases : (c : Call) → Verdict c (refusal permitted known l c)
+  pub refusal_cases : (c : Call) → Verdict c (refusal permitted known l c)
   unfolding refusal
-  refusal-cases (ask t n) = ask-cases t n _ _ _ _ refl refl refl refl
-  refusal-cases (finish t) = finish-cases t _ _ refl refl
-  refusal-cases (withdraw t) = withdraw-cases t _ _ refl refl
+  refusal_cases (ask t n) = ask_cases t n _ _ _ _ refl refl refl refl
+  refusal_cases (finish t) = finish_cases t _ _ refl refl
+  refusal_cases (withdraw t) = withdraw_cases t _ _ refl refl

@@ -53,18 +53,18 @@ at_own_bit lo p e = record { low = omega arith; high = omega arith }
 
 module _ (a b : Expr) (lo p : ℕ) where
   -- the first set, the last set and the followers of a sequence
-  pub in-first-seq : In p (first (seq a b) lo) ↔ (In p (first a lo) ⊎ ((can_be_empty a ≡ true) × In p (first b (lo + size a))))
+  pub in_first_seq : In p (first (seq a b) lo) ↔ (In p (first a lo) ⊎ ((can_be_empty a ≡ true) × In p (first b (lo + size a))))
   unfolding first
-  in-first-seq = in_joined (can_be_empty a) p (first a lo) (first b (lo + size a))
+  in_first_seq = in_joined (can_be_empty a) p (first a lo) (first b (lo + size a))
 
-  pub in-last-seq : In p (last (seq a b) lo) ↔ (((can_be_empty b ≡ true) × In p (last a lo)) ⊎ In p (last b (lo + size a)))
+  pub in_last_seq : In p (last (seq a b) lo) ↔ (((can_be_empty b ≡ true) × In p (last a lo)) ⊎ In p (last b (lo + size a)))
   unfolding last
-  in-last-seq = in_joined_left (can_be_empty b) p (last a lo) (last b (lo + size a))
+  in_last_seq = in_joined_left (can_be_empty b) p (last a lo) (last b (lo + size a))
 
-  pub in-follows-seq : (q : ℕ) → In q (follows (seq a b) lo p)
+  pub in_follows_seq : (q : ℕ) → In q (follows (seq a b) lo p)
       ↔ (In q (follows a lo p) ⊎ (In q (follows b (lo + size a) p) ⊎ (In p (last a lo) × In q (first b (lo + size a)))))
   unfolding follows
-  in-follows-seq q = (
+  in_follows_seq q = (
     λ h. ⊎_elim (λ s. ⊎_elim inl (λ r. inr (inl r)) (parts.0 s)) (λ n. inr (inr (link.0 n))) (whole.0 h),
     λ h. whole.1 (⊎_elim (λ l. inl (parts.1 (inl l))) (λ k. ⊎_elim (λ r. inl (parts.1 (inr r))) (λ n. inr (link.1 n)) k) h),
   )
@@ -96,7 +96,7 @@ unfolding first size
 first_inside (name n) lo p h = at_own_bit lo p ((in_single p lo).0 h)
 first_inside (seq a b) lo p h =
     either_inside lo (size a) (size b) p
-    (⊎_map (first_inside a lo p) (λ i. first_inside b (lo + size a) p i.1) ((in-first-seq a b lo p).0 h))
+    (⊎_map (first_inside a lo p) (λ i. first_inside b (lo + size a) p i.1) ((in_first_seq a b lo p).0 h))
 first_inside (choice a b) lo p h =
     either_inside lo (size a) (size b) p
     (⊎_map (first_inside a lo p) (first_inside b (lo + size a) p) ((in_union p (first a lo) (first b (lo + size a))).0 h))
@@ -110,7 +110,7 @@ follows_inside (seq a b) lo p q h =
     (⊎_map
     (follows_inside a lo p q)
     (⊎_elim (follows_inside b (lo + size a) p q) (λ i. first_inside b (lo + size a) q i.1))
-    ((in-follows-seq a b lo p q).0 h))
+    ((in_follows_seq a b lo p q).0 h))
 follows_inside (choice a b) lo p q h =
     either_inside lo (size a) (size b) q
     (⊎_map (follows_inside a lo p q) (follows_inside b (lo + size a) p q) ((in_union q (follows a lo p) (follows b (lo + size a) p)).0 h))

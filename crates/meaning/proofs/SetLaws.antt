@@ -61,24 +61,24 @@ halved x y d e h = (omega arith, omega arith)
 module _ (set : ℕ → ℕ → ℕ) (f : ℕ → ℕ → ℕ) (g : Bool → Bool → Bool)
     (step : (a b : ℕ) → set a b ≡ set (a / 2) (b / 2) * 2 + f (a % 2) (b % 2))
     (digit : (a b : ℕ) → a < 2 → b < 2 → (f a b < 2) × (eqb (f a b) 1 ≡ g (eqb a 1) (eqb b 1))) where
-  mem-digitwise : (p a b : ℕ) → mem p (set a b) ≡ g (mem p a) (mem p b)
+  mem_digitwise : (p a b : ℕ) → mem p (set a b) ≡ g (mem p a) (mem p b)
   unfolding mem
-  mem-digitwise zero a b =
+  mem_digitwise zero a b =
       let d = digit (a % 2) (b % 2) (omega arith) (omega arith) in
       ap (λ (n : ℕ). eqb n 1) (halved (set a b) (set (a / 2) (b / 2)) (f (a % 2) (b % 2)) (step a b) d.0).1 ∙ d.1
-  mem-digitwise (suc p) a b =
+  mem_digitwise (suc p) a b =
       let d = digit (a % 2) (b % 2) (omega arith) (omega arith) in
-      ap (mem p) (halved (set a b) (set (a / 2) (b / 2)) (f (a % 2) (b % 2)) (step a b) d.0).0 ∙ mem-digitwise p (a / 2) (b / 2)
+      ap (mem p) (halved (set a b) (set (a / 2) (b / 2)) (f (a % 2) (b % 2)) (step a b) d.0).0 ∙ mem_digitwise p (a / 2) (b / 2)
 
 pub mem_union : (p a b : ℕ) → mem p (bit_or a b) ≡ mem p a || mem p b
 mem_union =
-    mem-digitwise bit_or max ◌||◌ or_step
+    mem_digitwise bit_or max ◌||◌ or_step
     (both_digits (λ a b. (max a b < 2) × (eqb (max a b) 1 ≡ eqb a 1 || eqb b 1))
     (omega arith, refl) (omega arith, refl) (omega arith, refl) (omega arith, refl))
 
 pub mem_shared : (p a b : ℕ) → mem p (bit_and a b) ≡ mem p a && mem p b
 mem_shared =
-    mem-digitwise bit_and min ◌&&◌ and_step
+    mem_digitwise bit_and min ◌&&◌ and_step
     (both_digits (λ a b. (min a b < 2) × (eqb (min a b) 1 ≡ eqb a 1 && eqb b 1))
     (omega arith, refl) (omega arith, refl) (omega arith, refl) (omega arith, refl))
 

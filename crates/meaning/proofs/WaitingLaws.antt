@@ -119,14 +119,14 @@ without_between (d ∷ ahead) after e = rw (without_between ahead after e)
 
 -- an entry of es, with those ahead of it and those after
 module _ {es : List Entry} (ahead after : List Entry) (e : Entry) (listed : es ≡ ahead ++ e ∷ after) where
-  pub own-entry : Distinct (terminals_of es) → entry_of e.terminal es ≡ at (length ahead) e
-  own-entry d = rw listed (own_found ahead after e (rw listed at d))
+  pub own_entry : Distinct (terminals_of es) → entry_of e.terminal es ≡ at (length ahead) e
+  own_entry d = rw listed (own_found ahead after e (rw listed at d))
 
-  pub none-own-ahead : Distinct (terminals_of es) → ¬ Memᴰ e.terminal (terminals_of ahead)
-  none-own-ahead d = distinct_ahead (terminals_of ahead) (terminals_of after) e.terminal (rw (listed, map-append) at d)
+  pub none_own_ahead : Distinct (terminals_of es) → ¬ Memᴰ e.terminal (terminals_of ahead)
+  none_own_ahead d = distinct_ahead (terminals_of ahead) (terminals_of after) e.terminal (rw (listed, map-append) at d)
 
-  pub without-own : without (length ahead) es ≡ ahead ++ after
-  without-own = rw listed (without_between ahead after e)
+  pub without_own : without (length ahead) es ≡ ahead ++ after
+  without_own = rw listed (without_between ahead after e)
 
   pub distinct_without : Distinct (terminals_of es) → Distinct (terminals_of (ahead ++ after))
   distinct_without d = rw map-append (distinct_around (terminals_of ahead) (terminals_of after) e.terminal (rw (listed, map-append) at d))

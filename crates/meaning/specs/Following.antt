@@ -11,9 +11,9 @@ module _ (rows : List ℕ) (permission : Name → ℕ) where
   Walk s (k ∷ h) = (p : ℕ) × In p s × In p (permission k) × Walk (get_or rows p 0) h
 
   -- the set kept after the history: what both share at an ask, the union of the rows at a finish
-  unfoldable pub setAfter : ℕ → List Name → ℕ
-  setAfter s [] = s
-  setAfter s (k ∷ h) = setAfter (union_of rows (bit_and s (permission k))) h
+  unfoldable pub set_after : ℕ → List Name → ℕ
+  set_after s [] = s
+  set_after s (k ∷ h) = set_after (union_of rows (bit_and s (permission k))) h
 
   -- "a table permits a history if each of its operations in turn meets the set and moves it as an ask and a finish do"
   unfoldable pub permits : ℕ → List Name → Bool

@@ -23,33 +23,33 @@ Says test x = test x ≡ true
 
 module _ (permitted : List Name → Bool) (known : Name → Bool) where
   -- what calls from an opening show, and the line after them
-  abbrev pub heardOf : List Call → Account
-  heardOf cs = account (talk permitted known opening cs)
+  abbrev pub heard_of : List Call → Account
+  heard_of cs = account (talk permitted known opening cs)
 
-  abbrev pub lineAfter : List Call → Line
-  lineAfter cs = after permitted known opening cs
+  abbrev pub line_after : List Call → Line
+  line_after cs = after permitted known opening cs
 
   -- what can be seen of it: calls from an opening get these replies, and leave these entries waiting
   pub record IdealSeen (xs : List Exchange) (es : List Entry) : Type 0 where
     pub calls : List Call
     pub replies : talk permitted known opening calls ≡ xs
-    pub entries : (lineAfter calls).waiting ≡ es
+    pub entries : (line_after calls).waiting ≡ es
 
   -- what is promised of one line
-  pub record Keeps-its-promises : Type 0 where
+  pub record KeepsItsPromises : Type 0 where
     -- "a refusal leaves record and list with every cell as before"
-    pub refused-changes-nothing : (l : Line) (c : Call) (m : ℕ) → refusal_in (step permitted known l c).0 ≡ some m
+    pub refused_changes_nothing : (l : Line) (c : Call) (m : ℕ) → refusal_in (step permitted known l c).0 ≡ some m
         → (step permitted known l c).1 ≡ l
     -- one more call adds one exchange and changes none before it
-    pub talk-goes-on : (cs : List Call) (c : Call)
-        → talk permitted known opening (cs ++ c ∷ []) ≡ talk permitted known opening cs ++ (step permitted known (lineAfter cs) c).0 ∷ []
+    pub talk_goes_on : (cs : List Call) (c : Call)
+        → talk permitted known opening (cs ++ c ∷ []) ≡ talk permitted known opening cs ++ (step permitted known (line_after cs) c).0 ∷ []
     -- calls and replies show all there is: the line after them holds nothing else, and its list is the waiters
-    pub line-is-heard : (cs : List Call) → lineAfter cs ≡ line_of (heardOf cs)
+    pub line_is_heard : (cs : List Call) → line_after cs ≡ line_of (heard_of cs)
     -- "the empty history is always permitted"; then the line keeps demand 3
     pub demanded : permitted [] ≡ true → Demand3 IdealSeen (Says permitted) (Says known)
 
 abbrev pub LineKeepsItsPromises : Type 0
-LineKeepsItsPromises = (permitted : List Name → Bool) (known : Name → Bool) → Keeps-its-promises permitted known
+LineKeepsItsPromises = (permitted : List Name → Bool) (known : Name → Bool) → KeepsItsPromises permitted known
 
 -- lines with the same permitted histories and the same known names cannot be told apart
 abbrev pub SameHistoriesSameLines : Type 0

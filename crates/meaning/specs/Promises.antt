@@ -8,7 +8,7 @@ use Rattle.meaning.specs.Words.{Expr, Word, Begins, names}
 use Rattle.meaning.specs.Words.Expr.{seq, choice}
 use Rattle.meaning.specs.Sets.{mem, In, union_of}
 use Rattle.meaning.specs.Positions.{size, rows, permission, start}
-use Rattle.meaning.specs.Following.{Walk, setAfter, permits}
+use Rattle.meaning.specs.Following.{Walk, set_after, permits}
 use Rattle.meaning.specs.Rewriting.{Place, fill, Rewritten}
 
 -- the laws of sets: none, single, union, what two share, the union of rows; equal members make equal sets, and below 2 ^ k
@@ -36,7 +36,7 @@ WalkBegins = (e : Expr) (h : List Name) → Walk (rows e) (permission e) (start 
 
 -- the set kept after a history is not empty exactly if the history begins a repetition
 abbrev pub SetBegins : Type 0
-SetBegins = (e : Expr) (h : List Name) → (setAfter (rows e) (permission e) (start e) h ≢ 0) ↔ Begins e h
+SetBegins = (e : Expr) (h : List Name) → (set_after (rows e) (permission e) (start e) h ≢ 0) ↔ Begins e h
 
 -- demand 2, of the rules' own table: it permits a history exactly if the history begins a repetition
 abbrev pub PermitsBegins : Type 0

@@ -25,7 +25,7 @@ use Rattle.table.specs.Following.{found_in}
 use Rattle.table.specs.Linking.{single}
 use Rattle.table.specs.Rules.{padded, operations_of}
 use Rattle.table.proofs.NameNumbers.{length_operations, operations_snoc}
-use Rattle.table.proofs.Padding.{padded-snoc}
+use Rattle.table.proofs.Padding.{padded_snoc}
 use Rattle.table.proofs.Spelled.{spelled_back}
 use Rattle.parts.specs.Parts.{refusal, named, positioned, placed_as, placed}
 use Rattle.parts.specs.Progress.{noted, Fine, rows_after, part_of}
@@ -71,33 +71,33 @@ operations_next ns n h =
     let os = operations_of (distinct ns) ns in
     let o : Operation = record { 0 = number_of (added (distinct ns) n) (key n) } in
     let here : length os ≡ length ns = length_operations (distinct ns) ns in
-    rw (operations_snoc ns n, ← here) (padded-snoc 64 (record { 0 = 0 }) o os (omega arith))
+    rw (operations_snoc ns n, ← here) (padded_snoc 64 (record { 0 = 0 }) o os (omega arith))
 
 lengths_next : (ds : List Name) (n : Name) → length ds < 32
     → set (padded 32 0 (map length ds)) (length ds) (length n) ≡ padded 32 0 (map length (ds ++ n ∷ []))
 lengths_next ds n h =
     let here : length (map length ds) ≡ length ds = length-map ds length in
-    rw (map-append length ds (n ∷ []), ← here) (padded-snoc 32 0 (length n) (map length ds) (omega arith))
+    rw (map-append length ds (n ∷ []), ← here) (padded_snoc 32 0 (length n) (map length ds) (omega arith))
 
 module _ (ns : List Name) (rs : List ℕ) (n : Name) (fine : Fine ns) (short : length n ≤ 16) where
   -- the distinct names are some of the names, so they are short, and the table's bytes spell them
-  distinct-short : (d : Name) → Memᴰ d (distinct ns) → length d ≤ 16
-  distinct-short d m = fine.short d (distinct_member ns d m)
+  distinct_short : (d : Name) → Memᴰ d (distinct ns) → length d ≤ 16
+  distinct_short d m = fine.short d (distinct_member ns d m)
 
-  names-noted : names_of (noted ns rs) ≡ distinct ns
+  names_noted : names_of (noted ns rs) ≡ distinct ns
   unfolding names_of noted
-  names-noted = spelled_back (distinct ns) distinct-short
+  names_noted = spelled_back (distinct ns) distinct_short
 
   -- a short name is looked up among the distinct ones, if there is a position left
-  placed-found : placed (noted ns rs) n
+  placed_found : placed (noted ns rs) n
       ≡ cond (leb 64 (length ns)) (refusal 6 (noted ns rs)) (placed_as (noted ns rs) n (found_in (distinct ns) (key n)))
   unfolding placed noted
-  placed-found = rw (le-ltb 16 (length n) short, names-noted)
+  placed_found = rw (le-ltb 16 (length n) short, names_noted)
 
   -- the number of the refusal is that of the limit
-  pub placed-number : (placed (noted ns rs) n).number ≡ name_limit ns n
+  pub placed_number : (placed (noted ns rs) n).number ≡ name_limit ns n
   unfolding found_in noted
-  placed-number = rw placed-found (go (leb 64 (length ns)) (holds (distinct ns) (key n)))
+  placed_number = rw placed_found (go (leb 64 (length ns)) (holds (distinct ns) (key n)))
     where
       o : Operation
       o = record { 0 = number_of (distinct ns) (key n) }
@@ -115,10 +115,10 @@ module _ (ns : List Name) (rs : List ℕ) (n : Name) (fine : Fine ns) (short : l
           new false = refl
 
   -- a known name: one operation more
-  known-part : holds (distinct ns) (key n) ≡ true → length ns < 64
+  known_part : holds (distinct ns) (key n) ≡ true → length ns < 64
       → (positioned (noted ns rs) (number_of (distinct ns) (key n))).part ≡ part_of (name n) ns rs
   unfolding part_of can_be_empty first last names rows_after noted
-  known-part known left =
+  known_part known left =
       rw (
         single_next (length ns) left,
         ← (operations_next ns n left),
@@ -128,10 +128,10 @@ module _ (ns : List Name) (rs : List ℕ) (n : Name) (fine : Fine ns) (short : l
       )
 
   -- a new name: its spelling and its operation, which is the next number
-  new-part : holds (distinct ns) (key n) ≡ false → length (distinct ns) < 32 → length ns < 64
+  new_part : holds (distinct ns) (key n) ≡ false → length (distinct ns) < 32 → length ns < 64
       → (positioned (named (noted ns rs) n) (length (distinct ns))).part ≡ part_of (name n) ns rs
   unfolding part_of can_be_empty first last names rows_after noted
-  new-part new few left =
+  new_part new few left =
       rw (
         single_next (length ns) left,
         ← (operations_next ns n left),
@@ -141,24 +141,24 @@ module _ (ns : List Name) (rs : List ℕ) (n : Name) (fine : Fine ns) (short : l
         number_new (distinct ns) n new,
         length-append (distinct ns) (n ∷ []),
         lengths_next (distinct ns) n few,
-        written_name (distinct ns) n distinct-short short few,
+        written_name (distinct ns) n distinct_short short few,
       )
 
   -- and where there is none, the part is that of the name, and the names still fit
-  pub placed-part : name_limit ns n ≡ 0 → (placed (noted ns rs) n).part ≡ part_of (name n) ns rs
+  pub placed_part : name_limit ns n ≡ 0 → (placed (noted ns rs) n).part ≡ part_of (name n) ns rs
   unfolding found_in noted
-  placed-part none = rw (placed-found, lt-leb 64 (length ns) left) (go (holds (distinct ns) (key n)) refl)
+  placed_part none = rw (placed_found, lt-leb 64 (length ns) left) (go (holds (distinct ns) (key n)) refl)
     where
       left : length ns < 64
       left = position_left ns n none
 
       go : (known : Bool) → holds (distinct ns) (key n) ≡ known
           → (placed_as (noted ns rs) n (cond known (At (record { 0 = number_of (distinct ns) (key n) })) Nowhere)).part ≡ part_of (name n) ns rs
-      go true known = known-part known left
-      go false new = let few = name_left ns n none new in rw (lt-leb 32 (length (distinct ns)) few) (new-part new few left)
+      go true known = known_part known left
+      go false new = let few = name_left ns n none new in rw (lt-leb 32 (length (distinct ns)) few) (new_part new few left)
 
-  pub placed-fine : name_limit ns n ≡ 0 → Fine (ns ++ n ∷ [])
-  placed-fine none =
+  pub placed_fine : name_limit ns n ≡ 0 → Fine (ns ++ n ∷ [])
+  placed_fine none =
       record {
         positions = omega (arith, length-append ns (n ∷ []), position_left ns n none);
         names_few = rw (distinct_snoc ns n, length_added (distinct ns) n) (go (holds (distinct ns) (key n)) refl);

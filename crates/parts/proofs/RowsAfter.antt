@@ -18,7 +18,7 @@ use Rattle.meaning.proofs.SetLaws.{union_assoc}
 use Rattle.meaning.proofs.RowLaws.{length_rows, row_cells}
 use Rattle.table.specs.Linking.{linked}
 use Rattle.table.specs.Rules.{padded}
-use Rattle.table.proofs.Padding.{length-padded, padded-at}
+use Rattle.table.proofs.Padding.{length_padded, padded_at}
 use Rattle.parts.specs.Progress.{rows_after}
 
 -- linking keeps the number of rows, and joins f into the rows of l
@@ -83,8 +83,8 @@ rows_completed e n h =
     let many : length zeros ≡ n = length-replicate n 0 in
     let done = rows_after (star e) 0 zeros in
     let as_many : length done ≡ length zeros = length_after (star e) 0 zeros in
-    ext_get_or 0 done (padded n 0 (rows e)) (as_many ∙ many ∙ sym (length-padded n 0 (rows e) (rw (length_rows e) h))) (λ p l.
+    ext_get_or 0 done (padded n 0 (rows e)) (as_many ∙ many ∙ sym (length_padded n 0 (rows e) (rw (length_rows e) h))) (λ p l.
     after_at (star e) 0 zeros p (omega arith)
     ∙ ap (λ (r : ℕ). bit_or r (follows (star e) 0 p)) (get_or-replicate n p 0 0 (omega arith))
     ∙ sym (row_cells e p)
-    ∙ sym (padded-at n 0 (rows e) p))
+    ∙ sym (padded_at n 0 (rows e) p))

@@ -8,7 +8,7 @@ use lib.ListN.{length, drop, replicate, length-append, length-replicate, replica
 use lib.Seq.{take-append_seam, drop-append-add, drop_at}
 use Rattle.meaning.specs.Names.{Name}
 use Rattle.table.specs.Rules.{padded, bytes_of}
-use Rattle.table.proofs.Padding.{length-padded}
+use Rattle.table.proofs.Padding.{length_padded}
 use Rattle.parts.specs.Parts.{written}
 
 -- 16 bytes for each name
@@ -19,7 +19,7 @@ length_bytes (d ∷ ds) shorts =
     omega (
       arith,
       length-append (padded 16 0 d) (bytes_of ds),
-      length-padded 16 0 d (shorts d (Memᴰ.head refl)),
+      length_padded 16 0 d (shorts d (Memᴰ.head refl)),
       length_bytes ds (λ n m. shorts n (Memᴰ.tail m)),
     )
 
@@ -50,6 +50,6 @@ written_name ds n shorts short few =
     let behind = 512 - length (bs ++ padded 16 0 n) in
     let front : length bs ≡ 16 * length ds = length_bytes ds shorts in
     let next : length (bs ++ padded 16 0 n) ≡ length bs + 16 =
-    omega (arith, length-append bs (padded 16 0 n), length-padded 16 0 n short) in
+    omega (arith, length-append bs (padded 16 0 n), length_padded 16 0 n short) in
     let unused : 512 - length bs ≡ length n + (own + behind) = omega arith in
     rw (bytes_snoc ds n, ← front, unused) (written_behind bs n (own + behind) ∙ sym (padded_twice bs n own behind))

@@ -70,11 +70,11 @@ module _ {M : Type 1} {𝓤 : Ura M} {𝓛 : Logic 𝓤} {K : Type 0} {Γ : List
     answered t fm r os k = nothing t $ returned t fm r os (λ x h. drop t $ k x h)
 
     -- and what comes back is said: it is a
-    pub answered-as : K → FmC 𝓤 H 𝓛.laws C → (a : X) {P : X → Type 0}
+    pub answered_as : K → FmC 𝓤 H 𝓛.laws C → (a : X) {P : X → Type 0}
         → Returns 𝓛 C f vs (‵ ftrue) val (λ x. P x × (x ≡ a)) (λ _. ‵ ftrue)
         → Opds K 𝓛 Γ E xs vs → (P a → Seq K 𝓛 Γ (lands C Λ E d (val a) rest q))
         → Seq K 𝓛 Γ (runs C Λ E (seq (call f xs d) rest) q)
-    answered-as t fm a {P} r os k = answered t fm r os (λ x h.
+    answered_as t fm a {P} r os k = answered t fm r os (λ x h.
         subst (λ (z : X). P z → Seq K 𝓛 Γ (lands C Λ E d (val z) rest q)) (sym h.1) k h.0)
 
 module _ {M : Type 1} {𝓤 : Ura M} (𝓛 : Logic 𝓤) {C : Calls 𝓤 𝓛.H} where
@@ -115,13 +115,13 @@ module _ {M : Type 1} {𝓤 : Ura M} (𝓛 : Logic 𝓤) {C : Calls 𝓤 𝓛.H}
 
     module _ {f : Name} (known : Triple 𝓤 (C f) Promise) where
       -- for some result and last values, all that together gives the answer. F is what the caller keeps
-      pub by-ending : {X : Type 0} (val : X → Val) (φ : X → Type 0) (j : X → Item 𝓤) (i : Item 𝓤) (F : SProp 𝓤)
+      pub by_ending : {X : Type 0} (val : X → Val) (φ : X → Type 0) (j : X → Item 𝓤) (i : Item 𝓤) (F : SProp 𝓤)
           → ent 𝓤 (mean 𝓛 i) (sep 𝓤 (Promise.pre y) F)
           → ((d : R.Denot) (w : Val) → Is R d (w ∷ []) → (ws : Lasts T y.0.0 y.0.3)
           → ent 𝓤 (sep 𝓤 (sep 𝓤 (Leaves ws) (Says d ws)) (sep 𝓤 Tokens F))
           (H.⇛ (mean 𝓛 (some (λ x. given ((w ≡ val x) × φ x) (j x))))))
           → Returns 𝓛 C f (Promise.args y) i val φ j
-      by-ending {X} val φ j i F goes back = record {
+      by_ending {X} val φ j i F goes back = record {
         met = qed 𝓛 (i ∷ []) ∵ updating ! $ at_once ! $ use1 𝓛 (raw (Promise.pre y) ⊛ raw F) goes $ split ! $
             use1 𝓛 (raw (C f (Promise.args y) (Promise.post y))) (known y) $
             use2 𝓛 (raw (C f (Promise.args y) (λ w. mean 𝓛 (answer val φ j w))))
@@ -137,10 +137,10 @@ module _ {M : Type 1} {𝓤 : Ura M} (𝓛 : Logic 𝓤) {C : Calls 𝓤 𝓛.H}
       -- it says φ of its result, whose machine value `val` tells; and j is left of what is had after it
       module _ (val : R.Denot → Val) (tl : Tells R (Is R) (λ d. val d ∷ [])) (φ : R.Denot → Type 0)
           (says : (d : R.Denot) (ws : Lasts T y.0.0 y.0.3) → ent 𝓤 (Says d ws) (fact 𝓤 (φ d))) where
-        pub by-contract : (i j : Item 𝓤) (F : SProp 𝓤) → ent 𝓤 (mean 𝓛 i) (sep 𝓤 (Promise.pre y) F)
+        pub by_contract : (i j : Item 𝓤) (F : SProp 𝓤) → ent 𝓤 (mean 𝓛 i) (sep 𝓤 (Promise.pre y) F)
             → ent 𝓤 (sep 𝓤 Tokens F) (H.⇛ (mean 𝓛 j))
             → Returns 𝓛 C f (Promise.args y) i val (λ d. Is R d (val d ∷ []) × φ d) (λ _. j)
-        by-contract i j F goes back = by-ending val (λ d. Is R d (val d ∷ []) × φ d) (λ _. j) i F goes (λ d w is ws.
+        by_contract i j F goes back = by_ending val (λ d. Is R d (val d ∷ []) × φ d) (λ _. j) i F goes (λ d w is ws.
             qed 𝓛 ((raw (Leaves ws) ⊛ raw (Says d ws)) ∷ (raw Tokens ⊛ raw F) ∷ []) ∵ updating ! $ split ! $ drop ! $
             use1 𝓛 (raw (fact 𝓤 (φ d))) (says d ws) $ heard ! (φ d) (λ e. use1 𝓛 (later j) back $ await ! tt $ at_once ! $
             show ! (λ (x : R.Denot). guard 𝓤 ((w ≡ val x) × (Is R x (val x ∷ []) × φ x)) (mean 𝓛 j)) d $
@@ -150,20 +150,20 @@ module _ {M : Type 1} {𝓤 : Ura M} (𝓛 : Logic 𝓤) {C : Calls 𝓤 𝓛.H}
         pub by_value : ent 𝓤 (emp 𝓤) Tokens → Makess 𝓛 Takes (Ises Takes) → Are Takes (Ises Takes) y.0.3 y.0.4
             → ent 𝓤 (emp 𝓤) ((c y.0.0 y.0.3).requires y.1)
             → Returns 𝓛 C f (Promise.args y) (‵ ftrue) val (λ d. Is R d (val d ∷ []) × φ d) (λ _. ‵ ftrue)
-        by_value free makes are needs = by-contract (‵ ftrue) (‵ ftrue) (emp 𝓤)
+        by_value free makes are needs = by_contract (‵ ftrue) (‵ ftrue) (emp 𝓤)
             (qed 𝓛 (‵ ftrue ∷ []) ∵ use1 𝓛 (raw ((c y.0.0 y.0.3).requires y.1)) needs $ nothing ! $
             use1 𝓛 (‵ (owns Takes y.0.3 y.0.4)) (owns_make 𝓛 Takes (Ises Takes) makes y.0.3 y.0.4 are) $
             nothing ! $ use1 𝓛 (raw Tokens) free $ join ! $ join ! $ frame ! $ nothing ! $ done !)
             (via 𝓤 (emp 𝓤) (snd∗ 𝓤 Tokens (emp 𝓤)) (𝓛.laws.⇛_intro (emp 𝓤)))
 
       -- it returns nothing; for some x of which φ holds, j x is left
-      pub by-leaving : ((d : R.Denot) (w : Val) → Is R d (w ∷ []) → w ≡ vunit)
+      pub by_leaving : ((d : R.Denot) (w : Val) → Is R d (w ∷ []) → w ≡ vunit)
           → {X : Type 0} (φ : X → Type 0) (k j : X → Item 𝓤)
           → ((d : R.Denot) (ws : Lasts T y.0.0 y.0.3)
           → ent 𝓤 (sep 𝓤 (Leaves ws) (Says d ws)) (mean 𝓛 (some (λ x. given (φ x) (k x)))))
           → ((x : X) → ent 𝓤 (sep 𝓤 Tokens (mean 𝓛 (k x))) (mean 𝓛 (j x)))
           → (i : Item 𝓤) → ent 𝓤 (mean 𝓛 i) (Promise.pre y) → Returns 𝓛 C f (Promise.args y) i (λ _. vunit) φ j
-      by-leaving none {X} φ k j says back i goes = by-ending (λ _. vunit) φ j i (emp 𝓤)
+      by_leaving none {X} φ k j says back i goes = by_ending (λ _. vunit) φ j i (emp 𝓤)
           (qed 𝓛 (i ∷ []) ∵ use1 𝓛 (raw (Promise.pre y)) goes $ frame ! $ nothing ! $ done !) (λ d w is ws.
           qed 𝓛 ((raw (Leaves ws) ⊛ raw (Says d ws)) ∷ (raw Tokens ⊛ ‵ ftrue) ∷ []) ∵ updating ! $
           use1 𝓛 (some (λ x. given (φ x) (k x))) (says d ws) $ pick ! (λ x. learn ! (λ h. move ! (1 ∷ []) $ split ! $

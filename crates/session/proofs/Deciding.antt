@@ -42,12 +42,12 @@ use Rattle.steps.specs.contracts.calls.finished as finished
 use Rattle.steps.proofs.calls.finished.Symbol.{name as #finished}
 use Rattle.steps.specs.contracts.calls.withdrawn as withdrawn
 use Rattle.steps.proofs.calls.withdrawn.Symbol.{name as #withdrawn}
-use Rattle.session.proofs.Answers.{Returns, by-contract, by_value}
+use Rattle.session.proofs.Answers.{Returns, by_contract, by_value}
 use Rattle.session.proofs.Lent.{ref_to, slice_val}
 use Rattle.session.proofs.Values.{session_val, table_val, terminal_val, search_val, opened_val, asked_val, handed_val}
 use Rattle.session.proofs.Values.{withdrawn_val, IsSession, IsTable, IsTerminal, IsSearch, IsOpened, IsAsked, IsHanded}
-use Rattle.session.proofs.Values.{IsWithdrawn, made-session, made_table, made-terminal, made-search, made-number}
-use Rattle.session.proofs.Values.{session-owned, terminal-owned, search-owned, number-owned}
+use Rattle.session.proofs.Values.{IsWithdrawn, made_session, made_table, made_terminal, made_search, made_number}
+use Rattle.session.proofs.Values.{session_owned, terminal_owned, search_owned, number_owned}
 
 -- a name at (b, o), lent as a `&` under the name γ for κ, with the token of κ
 abbrev pub Shows : Lft → ℕ → ℕ → GName → List ℕ → Fml
@@ -73,13 +73,13 @@ module _ {M : Type 1} {𝓤 : Ura M} (𝓛 : Logic 𝓤) (mem : Memory → SProp
   WithdrawnSays = triple_of 𝓛 withdrawn.signature (withdrawn.spec 𝓛 mem run)
 
   module _ {C : Calls 𝓤 H} (fm : FmC 𝓤 H 𝓛.laws C) where
-    pub opened-answers : Triple 𝓤 (C #opened) OpenedSays → (h : Session) (n : ℕ) (x : Table) → IsSession h → n < 2 ^ 64
+    pub opened_answers : Triple 𝓤 (C #opened) OpenedSays → (h : Session) (n : ℕ) (x : Table) → IsSession h → n < 2 ^ 64
         → IsTable x → Returns 𝓛 C #opened (session_val h ∷ vint w64 n ∷ table_val x ∷ []) (‵ ftrue) opened_val
         (λ v. IsOpened v × (OpenedBy h n x v)) (λ _. ‵ ftrue)
-    opened-answers known h n x gh gn gx = by_value 𝓛 fm opened.ended (opened.clauses 𝓛 mem run)
+    opened_answers known h n x gh gn gx = by_value 𝓛 fm opened.ended (opened.clauses 𝓛 mem run)
         ((tt, tt, tt, (h, (n, (x, tt))), (session_val h ∷ [], (vint w64 n ∷ [], (table_val x ∷ [], tt)))), tt) known
         opened_val (tells Opened.the_type Opened'.the_laws) (λ v. OpenedBy h n x v) (λ v ws. id⊢ 𝓤 _) (id⊢ 𝓤 _)
-        (made-session 𝓛, (made-number 𝓛, (made_table 𝓛, tt))) (gh, ((refl, gn), (gx, tt))) (id⊢ 𝓤 _)
+        (made_session 𝓛, (made_number 𝓛, (made_table 𝓛, tt))) (gh, ((refl, gn), (gx, tt))) (id⊢ 𝓤 _)
 
     module _ (h : Session) (n : ℕ) (f : Search) (x : Terminal) (gh : IsSession h) (gn : n < 2 ^ 64) (gf : IsSearch f)
         (gx : IsTerminal x) where
@@ -90,29 +90,29 @@ module _ {M : Type 1} {𝓤 : Ura M} (𝓛 : Logic 𝓤) (mem : Memory → SProp
       abbrev spelt : List Val × (List Val × (List Val × (List Val × Unit {0})))
       spelt = (session_val h ∷ [], (vint w64 n ∷ [], (search_val f ∷ [], (terminal_val x ∷ [], tt))))
 
-      pub finished-answers : Triple 𝓤 (C #finished) FinishedSays
+      pub finished_answers : Triple 𝓤 (C #finished) FinishedSays
           → Returns 𝓛 C #finished (session_val h ∷ vint w64 n ∷ search_val f ∷ terminal_val x ∷ []) (‵ ftrue) handed_val
           (λ v. IsHanded v × (FinishedBy h n f x v)) (λ _. ‵ ftrue)
-      finished-answers known = by_value 𝓛 fm finished.ended (finished.clauses 𝓛 mem run)
+      finished_answers known = by_value 𝓛 fm finished.ended (finished.clauses 𝓛 mem run)
           ((tt, tt, tt, took, spelt), tt) known
           handed_val (tells Handed.the_type Handed'.the_laws) (λ v. FinishedBy h n f x v) (λ v ws. id⊢ 𝓤 _) (id⊢ 𝓤 _)
-          (made-session 𝓛, (made-number 𝓛, (made-search 𝓛, (made-terminal 𝓛, tt))))
+          (made_session 𝓛, (made_number 𝓛, (made_search 𝓛, (made_terminal 𝓛, tt))))
           (gh, ((refl, gn), (gf, (gx, tt)))) (id⊢ 𝓤 _)
 
-      pub withdrawn-answers : Triple 𝓤 (C #withdrawn) WithdrawnSays
+      pub withdrawn_answers : Triple 𝓤 (C #withdrawn) WithdrawnSays
           → Returns 𝓛 C #withdrawn (session_val h ∷ vint w64 n ∷ search_val f ∷ terminal_val x ∷ []) (‵ ftrue) withdrawn_val
           (λ v. IsWithdrawn v × (WithdrawnBy h n f x v)) (λ _. ‵ ftrue)
-      withdrawn-answers known = by_value 𝓛 fm withdrawn.ended (withdrawn.clauses 𝓛 mem run)
+      withdrawn_answers known = by_value 𝓛 fm withdrawn.ended (withdrawn.clauses 𝓛 mem run)
           ((tt, tt, tt, took, spelt), tt) known
           withdrawn_val (tells Withdrawn.the_type Withdrawn'.the_laws) (λ v. WithdrawnBy h n f x v) (λ v ws. id⊢ 𝓤 _) (id⊢ 𝓤 _)
-          (made-session 𝓛, (made-number 𝓛, (made-search 𝓛, (made-terminal 𝓛, tt))))
+          (made_session 𝓛, (made_number 𝓛, (made_search 𝓛, (made_terminal 𝓛, tt))))
           (gh, ((refl, gn), (gf, (gx, tt)))) (id⊢ 𝓤 _)
 
       -- what a shared slice owns is had twice: one goes to the callee, and one is kept
-      pub asked-answers : Triple 𝓤 (C #asked) AskedSays → (κ : Lft) (q : Share) (b o : ℕ) (γ : GName) (ns : List ℕ)
+      pub asked_answers : Triple 𝓤 (C #asked) AskedSays → (κ : Lft) (q : Share) (b o : ℕ) (γ : GName) (ns : List ℕ)
           → Returns 𝓛 C #asked (session_val h ∷ vint w64 n ∷ search_val f ∷ terminal_val x ∷ slice_val b o ns ∷ [])
           (Named κ q b o γ ns) asked_val (λ v. IsAsked v × (AskedBy h n f x ns v)) (λ _. Named κ q b o γ ns)
-      asked-answers known κ q b o γ ns = by-contract 𝓛 fm asked.ended (asked.clauses 𝓛 mem run) (
+      asked_answers known κ q b o γ ns = by_contract 𝓛 fm asked.ended (asked.clauses 𝓛 mem run) (
         (
           (κ, tt),
           (q, tt),
@@ -128,9 +128,9 @@ module _ {M : Type 1} {𝓤 : Ura M} (𝓛 : Logic 𝓤) (mem : Memory → SProp
           (qed 𝓛 (Named κ q b o γ ns ∷ []) ∵ split ! $
           use1 𝓛 (‵ (Shows κ b o γ ns) ⊛ ‵ (Shows κ b o γ ns))
           ((shr_slice_copy 𝓛 (named 2) κ u8).twice (ref_to b o γ ns) (slice_val b o ns ∷ [])) $ split ! $
-          nothing ! $ move ! (1 ∷ 0 ∷ []) $ fjoin ! $ terminal-owned ! x gx $ fjoin ! $
-          search-owned ! f gf $ fjoin ! $
-          number-owned ! n gn $ fjoin ! $ session-owned ! h gh $
+          nothing ! $ move ! (1 ∷ 0 ∷ []) $ fjoin ! $ terminal_owned ! x gx $ fjoin ! $
+          search_owned ! f gf $ fjoin ! $
+          number_owned ! n gn $ fjoin ! $ session_owned ! h gh $
           fjoin ! $
           nothing ! $ move ! (3 ∷ 0 ∷ []) $ join ! $ join ! $ nothing ! $ move ! (1 ∷ 0 ∷ []) $ join ! $ done !)
           (qed 𝓛 ((‵ (flft κ q) ⊛ ‵ ftrue) ∷ ‵ (Shows κ b o γ ns) ∷ []) ∵ updating ! $ at_once ! $ split ! $ keep ! (2 ∷ 0 ∷ []) $

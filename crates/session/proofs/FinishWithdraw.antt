@@ -52,13 +52,13 @@ use Rattle.standing.proofs.numbers.Terminal.TheLaws as N'
 use Rattle.standing.proofs.searches.Search.TheLaws as F'
 use Rattle.session.proofs.lists.find.Symbol.{name as #find}
 use Rattle.session.proofs.lists.take_out.Symbol.{name as #take-out}
-use Rattle.session.proofs.Answers.{Returns, returned, answered, answered-as}
+use Rattle.session.proofs.Answers.{Returns, returned, answered, answered_as}
 use Rattle.session.proofs.Lent.{ref_to, slice_val}
 use Rattle.session.proofs.Locals.{value_of, field_of, sets, puts, freed}
-use Rattle.session.proofs.Records.{Holds, opens-record, closes-record, unpacks}
+use Rattle.session.proofs.Records.{Holds, opens_record, closes_record, unpacks}
 use Rattle.session.proofs.Values.{session_val, terminal_val, search_val, IsSession, IsTerminal, IsSearch, waiting_fits}
-use Rattle.session.proofs.Values.{typed-session, typed-terminal, typed-search, terminal-owned}
-use Rattle.session.proofs.ListCalls.{Left, Ends, FindSays, TakeOutSays, find-answers, take-out-leaves}
+use Rattle.session.proofs.Values.{typed_session, typed_terminal, typed_search, terminal_owned}
+use Rattle.session.proofs.ListCalls.{Left, Ends, FindSays, TakeOutSays, find_answers, take_out_leaves}
 
 -- what the two differ in
 pub record Taking : Type 2 where
@@ -83,11 +83,11 @@ pub record Taking : Type 2 where
   pub Does : Session → List Entry → Terminal → Reply.Denot → Session → List Entry → Type 0
 
 module _ (D : Taking) where
-  abbrev pub out-mir : Ty
-  out-mir = ty_struct D.out_name (tcons D.reply_mir (tcons S'.mir (tcons (ty_int w64) (tcons (ty_int w64) tnil))))
+  abbrev pub out_mir : Ty
+  out_mir = ty_struct D.out_name (tcons D.reply_mir (tcons S'.mir (tcons (ty_int w64) (tcons (ty_int w64) tnil))))
 
-  abbrev pub out-val : D.Out → Val
-  out-val v = vstruct (vcons (D.reply_val (D.reply v))
+  abbrev pub out_val : D.Out → Val
+  out_val v = vstruct (vcons (D.reply_val (D.reply v))
       (vcons (session_val (D.session v)) (vcons (vint w64 (D.used v)) (vcons (vint w64 (D.spot v)) vnil))))
 
   -- the code
@@ -119,7 +119,7 @@ module _ (D : Taking) where
     locals =
         local D.reply_mir value_local ∷ local (ty_ref (named 0) mut (pointee (S.the_row).written)) value_local
         ∷ local (slice_ty (ty_ref (named 1) mut entry)) value_local ∷ local N'.mir value_local
-        ∷ local S'.mir value_local ∷ local F'.mir value_local ∷ local out-mir value_local ∷ local (ty_ref erased imm entry) value_local
+        ∷ local S'.mir value_local ∷ local F'.mir value_local ∷ local out_mir value_local ∷ local (ty_ref erased imm entry) value_local
         ∷ local (slice_ty (ty_ref erased imm entry)) value_local
         ∷ local F'.mir value_local ∷ local (ty_int w64) value_local ∷ local ty_unit value_local
         ∷ local (ty_ref erased mut entry) value_local ∷ local (slice_ty (ty_ref erased mut entry)) value_local ∷ [];
@@ -158,7 +158,7 @@ pub record Known (D : Taking) {M : Type 1} {𝓤 : Ura M} (𝓛 : Logic 𝓤) : 
   pub is_session : (v : D.Out) → D.Fits v → IsSession (D.session v)
   pub used_fits : (v : D.Out) → D.Fits v → D.used v < 2 ^ 64
   pub spot_fits : (v : D.Out) → D.Fits v → D.spot v < 2 ^ 64
-  pub typed_out : (v : D.Out) → D.Fits v → T (has_ty (out-mir D) (out-val D v)) × WT (out-val D v)
+  pub typed_out : (v : D.Out) → D.Fits v → T (has_ty (out_mir D) (out_val D v)) × WT (out_val D v)
   pub typed_reply : (v : D.Out) → D.Fits v
       → T (has_ty D.reply_mir (D.reply_val (D.reply v))) × WT (D.reply_val (D.reply v))
   pub made_reply : (v : D.Out) → D.Fits v
@@ -178,7 +178,7 @@ module _ (D : Taking) {M : Type 1} {𝓤 : Ura M} (𝓛 : Logic 𝓤) where
 
   abbrev Decides : Calls 𝓤 H → Type 1
   Decides C = (h : Session) (n : ℕ) (f : Search) (x : Terminal) → IsSession h → n < 2 ^ 64 → IsSearch f → IsTerminal x
-      → Returns 𝓛 C D.decide_name (session_val h ∷ vint w64 n ∷ search_val f ∷ terminal_val x ∷ []) (‵ ftrue) (out-val D)
+      → Returns 𝓛 C D.decide_name (session_val h ∷ vint w64 n ∷ search_val f ∷ terminal_val x ∷ []) (‵ ftrue) (out_val D)
       (λ v. D.Fits v × (D.decide h n f x v)) (λ _. ‵ ftrue)
 
 module _ (D : Taking) {M : Type 1} {𝓤 : Ura M} (𝓛 : Logic 𝓤) (facts : Known D 𝓛)
@@ -221,7 +221,7 @@ module _ (D : Taking) {M : Type 1} {𝓤 : Ura M} (𝓛 : Logic 𝓤) (facts : K
         (D.reply_val (D.reply v)) (D.reply v) (D.session v, (zs, (tt, tt))) (tt, (end.1, (tt, tt)))) $
         says ! (subst (D.Does h ys x (D.reply v) (D.session v)) (sym end.0) so) $ split ! $ nothing ! $
         move ! (1 ∷ 0 ∷ []) $ join ! $ move ! (3 ∷ 0 ∷ []) $ join ! $ frame ! $
-        nothing ! $ terminal-owned ! x gx $ fjoin ! $
+        nothing ! $ terminal_owned ! x gx $ fjoin ! $
         move ! (1 ∷ 0 ∷ []) $ fjoin ! $ move ! (1 ∷ 0 ∷ []) $ fjoin ! $ frame ! $
         use0 𝓛 (‵ (D.Reply.own (D.reply v) (D.reply_val (D.reply v) ∷ []))) (facts.made_reply v fits) $ done !
 
@@ -235,40 +235,40 @@ module _ (D : Taking) {M : Type 1} {𝓤 : Ura M} (𝓛 : Logic 𝓤) (facts : K
         alloc1 ! (λ l₆. alloc1 ! (λ l₇. alloc1 ! (λ l₈. alloc1 ! (λ l₉. alloc1 ! (λ l₁₀. alloc1 ! (λ l₁₁.
         alloc1 ! (λ l₁₂. alloc1 ! (λ l₁₃. alloc0 ! $ params1 ! $
         pass1 ! (init ! 24 refl (tt, tt)) $ pass1 ! (init ! 22 refl (tt, (tt, (record { fits = room.0 }, tt)))) $
-        pass1 ! (init ! 20 refl (typed-terminal 𝓛 x gx)) $ pass0 ! $
+        pass1 ! (init ! 20 refl (typed_terminal 𝓛 x gx)) $ pass0 ! $
         move ! (28 ∷ 29 ∷ []) $ unpacks ! $ drop ! $ drop ! $
         -- [what the record's reference owns; its token; the list with its token; the locals]
-        opens-record ! tt S.the_type S'.the_laws (named 0) b o h (λ g.
+        opens_record ! tt S.the_type S'.the_laws (named 0) b o h (λ g.
         -- [the record's cell; its open borrow; what tells its value, twice; the list with its token; the locals]
         sets ! 23 refl refl (of_opd ! (load ! (from ! (hop ! (look ! 29 refl) (stop !))) (look_raw ! 0 refl)))
-        (typed-session 𝓛 h g) $
+        (typed_session 𝓛 h g) $
         sets ! 17 refl refl (addr ! (from ! (fld ! refl (hop ! (look_in ! 27 (sub ! 0 refl (whole !))) (stop !))))) (tt, tt) $
         sets ! 15 refl refl (agg ! (and_then ! (value_of ! 17 refl) (and_then ! (field_of ! 27 1 refl refl refl) (no_more !))))
         (tt, (tt, (record { fits = room.0 }, tt))) $
-        answered-as ! fm (D.start h x) (starts h x g gx)
+        answered_as ! fm (D.start h x) (starts h x g gx)
         (and_then ! (value_of ! 23 refl) (and_then ! (value_of ! 25 refl) (no_more !))) (λ sought.
-        puts ! 13 refl refl (typed-search 𝓛 (D.start h x) sought) $
+        puts ! 13 refl refl (typed_search 𝓛 (D.start h x) sought) $
         -- the list goes to `find`, and comes back
         move ! (4 ∷ []) $
-        returned ! fm (find-answers 𝓛 mem run fm κ' q' b' o' γ' ys h.waiting (D.start h x) (waiting_fits h g) sought
+        returned ! fm (find_answers 𝓛 mem run fm κ' q' b' o' γ' ys h.waiting (D.start h x) (waiting_fits h g) sought
         room known-find)
         (and_then ! (value_of ! 14 refl) (and_then ! (field_of ! 22 3 refl refl refl)
         (and_then ! (value_of ! 12 refl) (no_more !)))) (λ f found. move ! (1 ∷ 2 ∷ 3 ∷ 4 ∷ []) $
-        puts ! 21 refl refl (typed-search 𝓛 f found.0) $
+        puts ! 21 refl refl (typed_search 𝓛 f found.0) $
         sets ! 11 refl refl (of_opd ! (field_of ! 27 1 refl refl refl)) (tt, record { fits = room.0 }) $
         answered ! fm (decides h (length ys) f x g room.0 found.0 gx)
         (and_then ! (value_of ! 23 refl) (and_then ! (value_of ! 11 refl)
         (and_then ! (value_of ! 21 refl) (and_then ! (value_of ! 25 refl) (no_more !))))) (λ v made.
         puts ! 19 refl refl (facts.typed_out v made.0) $
         assigns ! (of_opd ! (field_of ! 19 1 refl refl refl)) (from ! (hop ! (look ! 29 refl) (stop !)))
-        (store_raw ! 0 refl (typed-session 𝓛 (D.session v) (facts.is_session v made.0))) $
-        closes-record ! tt S.the_type S'.the_laws (named 0) b o S'.the_plain (D.session v) (facts.is_session v made.0) $
+        (store_raw ! 0 refl (typed_session 𝓛 (D.session v) (facts.is_session v made.0))) $
+        closes_record ! tt S.the_type S'.the_laws (named 0) b o S'.the_plain (D.session v) (facts.is_session v made.0) $
         -- [what the record's reference owns; its token; the list with its token; the locals]
         sets ! 5 refl refl (addr ! (from ! (fld ! refl (hop ! (look_in ! 25 (sub ! 0 refl (whole !))) (stop !))))) (tt, tt) $
         sets ! 3 refl refl (agg ! (and_then ! (value_of ! 5 refl) (and_then ! (field_of ! 25 1 refl refl refl) (no_more !))))
         (tt, (tt, (record { fits = room.0 }, tt))) $
         move ! (2 ∷ []) $
-        returned ! fm (take-out-leaves 𝓛 mem run fm κ' q' b' o' γ' ys known-take-out (D.used v) (D.spot v)
+        returned ! fm (take_out_leaves 𝓛 mem run fm κ' q' b' o' γ' ys known-take-out (D.used v) (D.spot v)
         (facts.used_fits v made.0) (facts.spot_fits v made.0))
         (and_then ! (value_of ! 2 refl) (and_then ! (field_of ! 16 2 refl refl refl)
         (and_then ! (field_of ! 16 3 refl refl refl) (no_more !)))) (λ zs end.
@@ -281,8 +281,8 @@ module _ (D : Taking) {M : Type 1} {𝓤 : Ura M} (𝓛 : Logic 𝓤) (facts : K
         by ! (exits v zs made.0 (facts.does h ys x f v found.1 made.1)
         end))))))))))))))))))))
 
-  pub taking-meets : Meets 𝓛 (signature D) (WpFn 𝓤 H C Λ (function D)) (closing 𝓛 (ended D) (clauses D 𝓤))
-  taking-meets = walk_Meets 𝓛 (ended D) (stayed D) (
+  pub taking_meets : Meets 𝓛 (signature D) (WpFn 𝓤 H C Λ (function D)) (closing 𝓛 (ended D) (clauses D 𝓤))
+  taking_meets = walk_Meets 𝓛 (ended D) (stayed D) (
     Goes-ref 𝓛 2 0 tt (plain (λ _. S.the_row)),
     (Goes-gave_slice 𝓛 2 1 tt (plain (λ _. E.the_row)), (Goes-none 𝓛 2 (λ _. N.the_row) yes (λ κs x f. refl), tt)),
   )

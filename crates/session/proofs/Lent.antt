@@ -43,10 +43,10 @@ module _ (R : RattleType) (κ κ' : Lft) (q : Share) (γ : GName) (b o : ℕ) wh
     abbrev vals : List Val
     vals = slice_val b o ys ∷ []
 
-    pub shares-again : ent 𝓤 (sep 𝓤 (sem 𝓛 ((MutSlice ℓ κ R).own_val (ref_to b o γ ys) vals)) (A.lft κ q))
+    pub shares_again : ent 𝓤 (sep 𝓤 (sem 𝓛 ((MutSlice ℓ κ R).own_val (ref_to b o γ ys) vals)) (A.lft κ q))
         (H.⇛ (ex 𝓤 (λ (γ₁ : GName). sep 𝓤 (sem 𝓛 ((ShrSlice ℓ' κ' R).own_val (ref_to b o γ₁ ys) vals))
         (sem 𝓛 (SharedAgain ys)))))
-    shares-again =
+    shares_again =
         qed 𝓛 (‵ ((MutSlice ℓ κ R).own_val (ref_to b o γ ys) vals) ∷ ‵ (flft κ q) ∷ []) ∵ updating ! $ fsplit ! $
         pure_l ! (shr_slice_at R (ref_to b o γ ys) vals) (λ p. fsplit ! $ opens_slice ! tt R ys b o $
         feq_i ! ℕ (length ys) (length ys) refl $ fjoin ! $

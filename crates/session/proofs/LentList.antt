@@ -43,20 +43,20 @@ module _ {M : Type 1} {𝓤 : Ura M} (κ : Lft) (q : Share) (b o : ℕ) (γ : GN
 module _ {M : Type 1} {𝓤 : Ura M} {𝓛 : Logic 𝓤} {K : Type 0} {Γ : List (Item 𝓤)}
     {G : Goal 𝓤 𝓛.H} where
   -- a list that was lent to be written is owned again, at a list of the same length
-  pub list-owned : K → {κ : Lft} {γ : GName} (b o : ℕ) (ys zs : List Entry) → length zs ≡ length ys → Room E.the_row (length ys)
+  pub list_owned : K → {κ : Lft} {γ : GName} (b o : ℕ) (ys zs : List Entry) → length zs ≡ length ys → Room E.the_row (length ys)
       → Step K 𝓛 (‵ ((MutSlice (named 0) κ E.the_row).own_val (ref_to b o γ zs) (slice_val b o ys ∷ [])) ∷ Γ) G
       (‵ (fobs γ ((coded_holeys E.the_row).code (heres E.the_row zs))) ∷ ‵ (fbor κ (Held E.the_row (length zs) b o γ)) ∷ Γ) G
-  list-owned t {κ} {γ} b o ys zs l room = step (λ s. fjoin t $
+  list_owned t {κ} {γ} b o ys zs l room = step (λ s. fjoin t $
       pure_i t (mut_slice_at E.the_row (ref_to b o γ zs) (slice_val b o ys ∷ [])) (tt, (tt, tt))
       (ap (λ (m : ℕ). slice_val (b, o) m ∷ []) (sym l), subst (Room E.the_row) (sym l) room) $
       fjoin t $ s)
 
   -- the entry at i is taken out of the row
-  pub entry-out : K → (q : Share) (ys : List Entry) (i b o : ℕ) → i < length ys
+  pub entry_out : K → (q : Share) (ys : List Entry) (i b o : ℕ) → i < length ys
       → (IsEntry (get_or ys i blank_entry) → Seq K 𝓛
       (‵ (cell_at q (E.the_row).mir (entry_val (get_or ys i blank_entry) ∷ []) b (place (mem E.the_row).size o i))
       ∷ ‵ ((E.the_row).own_val (get_or ys i blank_entry) (entry_val (get_or ys i blank_entry) ∷ []))
       ∷ ‵ (others (shares E.the_row) q ys i b o) ∷ Γ) G)
       → Seq K 𝓛 (‵ (row E.the_row q ys b o) ∷ Γ) G
-  entry-out t q ys i b o l k = elem_out t E.the_row (Is E.the_row) (shows 𝓛 E.the_row) (λ e. entry_val e ∷ [])
+  entry_out t q ys i b o l k = elem_out t E.the_row (Is E.the_row) (shows 𝓛 E.the_row) (λ e. entry_val e ∷ [])
       (tells E.the_type E'.the_laws) q ys i blank_entry b o l k

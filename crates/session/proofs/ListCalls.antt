@@ -42,10 +42,10 @@ use Rattle.session.specs.contracts.lists.take_out as take_out
 use Rattle.session.proofs.lists.take_out.Symbol.{name as #take-out}
 use Rattle.session.specs.contracts.lists.blank as blank
 use Rattle.session.proofs.lists.blank.Symbol.{name as #blank}
-use Rattle.session.proofs.Answers.{Returns, prepared, by-contract, by-leaving}
-use Rattle.session.proofs.Lent.{ref_to, slice_val, SharedAgain, shares-again, unshared}
-use Rattle.session.proofs.Values.{entry_val, search_val, IsEntry, IsSearch, made-entry, made-number, search-owned}
-use Rattle.session.proofs.Values.{number-owned}
+use Rattle.session.proofs.Answers.{Returns, prepared, by_contract, by_leaving}
+use Rattle.session.proofs.Lent.{ref_to, slice_val, SharedAgain, shares_again, unshared}
+use Rattle.session.proofs.Values.{entry_val, search_val, IsEntry, IsSearch, made_entry, made_number, search_owned}
+use Rattle.session.proofs.Values.{number_owned}
 
 -- the list at (b, o), lent as a `&mut` under the name γ for κ
 abbrev pub Lists : Lft → ℕ → ℕ → GName → List Entry → Fml
@@ -101,20 +101,20 @@ module _ {M : Type 1} {𝓤 : Ura M} (𝓛 : Logic 𝓤) (mem : Memory → SProp
         (mean 𝓛 (Left κ q γ zs))
     left zs = qed 𝓛 ((‵ (flft κ q) ⊛ ‵ ftrue) ∷ ‵ (finally E.the_row γ zs) ∷ []) ∵ split ! $ keep ! (0 ∷ 2 ∷ []) $ done !
 
-    pub blank-leaves : Triple 𝓤 (C #blank) BlankSays → (n : ℕ) → n < 2 ^ 64
+    pub blank_leaves : Triple 𝓤 (C #blank) BlankSays → (n : ℕ) → n < 2 ^ 64
         → Returns 𝓛 C #blank (slice_val b o ys ∷ vint w64 n ∷ []) (Had κ q b o γ ys)
         (λ _. vunit) (Ends ys (blanked n ys)) (Left κ q γ)
-    blank-leaves known n gn = by-leaving 𝓛 fm blank.ended (blank.clauses 𝓛 mem run)
+    blank_leaves known n gn = by_leaving 𝓛 fm blank.ended (blank.clauses 𝓛 mem run)
         (((κ, tt), (q, tt), tt, (ref_to b o γ ys, (n, tt)), (slice_val b o ys ∷ [], (vint w64 n ∷ [], tt))), tt) known
         (λ d w is. ap only is) (Ends ys (blanked n ys)) (λ zs. ‵ (finally E.the_row γ zs)) (Left κ q γ)
         (λ d ws. ended (fsep ftrue ftrue) (blanked n ys) ws.0) left
         (Had κ q b o γ ys) (hands (owns (usize ∷ []) (n, tt) (vint w64 n ∷ [], tt))
-        (owns_make 𝓛 (usize ∷ []) (Is usize, tt) (made-number 𝓛, tt) (n, tt) (vint w64 n ∷ [], tt) ((refl, gn), tt)))
+        (owns_make 𝓛 (usize ∷ []) (Is usize, tt) (made_number 𝓛, tt) (n, tt) (vint w64 n ∷ [], tt) ((refl, gn), tt)))
 
-    pub take-out-leaves : Triple 𝓤 (C #take-out) TakeOutSays → (n p : ℕ) → n < 2 ^ 64 → p < 2 ^ 64
+    pub take_out_leaves : Triple 𝓤 (C #take-out) TakeOutSays → (n p : ℕ) → n < 2 ^ 64 → p < 2 ^ 64
         → Returns 𝓛 C #take-out (slice_val b o ys ∷ vint w64 n ∷ vint w64 p ∷ []) (Had κ q b o γ ys)
         (λ _. vunit) (Ends ys (taken_out n p ys)) (Left κ q γ)
-    take-out-leaves known n p gn gp = by-leaving 𝓛 fm take_out.ended (take_out.clauses 𝓛 mem run) (
+    take_out_leaves known n p gn gp = by_leaving 𝓛 fm take_out.ended (take_out.clauses 𝓛 mem run) (
       (
         (κ, tt),
         (q, tt),
@@ -127,13 +127,13 @@ module _ {M : Type 1} {𝓤 : Ura M} (𝓛 : Logic 𝓤) (mem : Memory → SProp
         (λ d w is. ap only is) (Ends ys (taken_out n p ys)) (λ zs. ‵ (finally E.the_row γ zs)) (Left κ q γ)
         (λ d ws. ended (fsep ftrue (fsep ftrue ftrue)) (taken_out n p ys) ws.0) left
         (Had κ q b o γ ys) (hands (owns (usize ∷ usize ∷ []) (n, (p, tt)) (vint w64 n ∷ [], (vint w64 p ∷ [], tt)))
-        (owns_make 𝓛 (usize ∷ usize ∷ []) (Is usize, (Is usize, tt)) (made-number 𝓛, (made-number 𝓛, tt))
+        (owns_make 𝓛 (usize ∷ usize ∷ []) (Is usize, (Is usize, tt)) (made_number 𝓛, (made_number 𝓛, tt))
         (n, (p, tt)) (vint w64 n ∷ [], (vint w64 p ∷ [], tt)) ((refl, gn), ((refl, gp), tt))))
 
-    pub append-leaves : Triple 𝓤 (C #append) AppendSays → (p : ℕ) (e : Entry) → p < 2 ^ 64 → IsEntry e
+    pub append_leaves : Triple 𝓤 (C #append) AppendSays → (p : ℕ) (e : Entry) → p < 2 ^ 64 → IsEntry e
         → Returns 𝓛 C #append (slice_val b o ys ∷ vint w64 p ∷ entry_val e ∷ []) (Had κ q b o γ ys)
         (λ _. vunit) (Ends ys (set ys p e)) (Left κ q γ)
-    append-leaves known p e gp ge = by-leaving 𝓛 fm append.ended (append.clauses 𝓛 mem run) (
+    append_leaves known p e gp ge = by_leaving 𝓛 fm append.ended (append.clauses 𝓛 mem run) (
       (
         (κ, tt),
         (q, tt),
@@ -147,7 +147,7 @@ module _ {M : Type 1} {𝓤 : Ura M} (𝓛 : Logic 𝓤) (mem : Memory → SProp
         (λ d ws. ended (fsep ftrue (fsep ftrue ftrue)) (set ys p e) ws.0) left
         (Had κ q b o γ ys) (hands (owns (usize ∷ E.the_row ∷ []) (p, (e, tt)) (vint w64 p ∷ [], (entry_val e ∷ [], tt)))
         (owns_make 𝓛 (usize ∷ E.the_row ∷ []) (Is usize, (Is E.the_row, tt))
-        (made-number 𝓛, (made-entry 𝓛, tt)) (p, (e, tt)) (vint w64 p ∷ [], (entry_val e ∷ [], tt))
+        (made_number 𝓛, (made_entry 𝓛, tt)) (p, (e, tt)) (vint w64 p ∷ [], (entry_val e ∷ [], tt))
         ((refl, gp), (ge, tt))))
 
     -- ---- lent for the call, for a lifetime ν that is made for it, under a name δ
@@ -161,8 +161,8 @@ module _ {M : Type 1} {𝓤 : Ura M} (𝓛 : Logic 𝓤) (mem : Memory → SProp
       abbrev Lent : ℕ × GName → Item 𝓤
       Lent a = ‵ (flft (a.0 ∷ []) full_share) ⊛ ‵ (Seen a.0 a.1) ⊛ ‵ (Kept a.0)
 
-      abbrev to-find : ℕ × GName → FindSays.Ghost
-      to-find a = (
+      abbrev to_find : ℕ × GName → FindSays.Ghost
+      to_find a = (
         (
           (a.0 ∷ [], tt),
           (full_share, tt),
@@ -176,12 +176,12 @@ module _ {M : Type 1} {𝓤 : Ura M} (𝓛 : Logic 𝓤) (mem : Memory → SProp
       lends : ent 𝓤 (mean 𝓛 (Had κ q b o γ ys)) (H.⇛ (mean 𝓛 (some Lent)))
       lends = qed 𝓛 (Had κ q b o γ ys ∷ []) ∵ updating ! $ split ! $ lft_new ! tt (λ ν. move ! (1 ∷ 2 ∷ []) $
           use2 𝓛 (later (some (λ (δ : GName). ‵ (Seen ν δ) ⊛ ‵ (Kept ν))))
-          (shares-again E.the_row κ (ν ∷ []) q γ b o 𝓛 (named 1) (named 0) ys) $ await ! tt $ pick ! (λ δ. at_once ! $
+          (shares_again E.the_row κ (ν ∷ []) q γ b o 𝓛 (named 1) (named 0) ys) $ await ! tt $ pick ! (λ δ. at_once ! $
           show ! (λ (a : ℕ × GName). mean 𝓛 (Lent a)) (ν, δ) $ move ! (1 ∷ 0 ∷ []) $ done !))
 
-      goes : (a : ℕ × GName) → ent 𝓤 (mean 𝓛 (Lent a)) (sep 𝓤 (FindSays.pre (to-find a)) (sem 𝓛 (Kept a.0)))
+      goes : (a : ℕ × GName) → ent 𝓤 (mean 𝓛 (Lent a)) (sep 𝓤 (FindSays.pre (to_find a)) (sem 𝓛 (Kept a.0)))
       goes a = qed 𝓛 (‵ (flft (a.0 ∷ []) full_share) ∷ ‵ (Seen a.0 a.1) ∷ ‵ (Kept a.0) ∷ []) ∵ nothing ! $
-          search-owned ! f gf $ fjoin ! $ number-owned ! n gn $ fjoin ! $ move ! (2 ∷ 0 ∷ []) $ fjoin ! $ nothing ! $
+          search_owned ! f gf $ fjoin ! $ number_owned ! n gn $ fjoin ! $ move ! (2 ∷ 0 ∷ []) $ fjoin ! $ nothing ! $
           move ! (2 ∷ 0 ∷ []) $ join ! $ join ! $ nothing ! $ move ! (1 ∷ 0 ∷ []) $ join ! $ done !
 
       comes_back : (ν : ℕ) → ent 𝓤 (sep 𝓤 (sep 𝓤 (A.lft (ν ∷ []) full_share) (emp 𝓤)) (sem 𝓛 (Kept ν)))
@@ -191,9 +191,9 @@ module _ {M : Type 1} {𝓤 : Ura M} (𝓛 : Logic 𝓤) (mem : Memory → SProp
           use2 𝓛 (later (Had κ q b o γ ys)) (unshared E.the_row κ (ν ∷ []) q γ b o 𝓛 (named 1) (named 0) ys room) $
           await ! tt $ at_once ! $ keep ! (0 ∷ []) $ done !
 
-      pub find-answers : Triple 𝓤 (C #find) FindSays
+      pub find_answers : Triple 𝓤 (C #find) FindSays
           → Returns 𝓛 C #find (slice_val b o ys ∷ vint w64 n ∷ search_val f ∷ []) (Had κ q b o γ ys) search_val
           (λ k. IsSearch k × (k ≡ looked 0 f (take n ys))) (λ _. Had κ q b o γ ys)
-      find-answers known = prepared 𝓛 Lent lends (λ a. by-contract 𝓛 fm find.ended (find.clauses 𝓛 mem run) (to-find a) known
+      find_answers known = prepared 𝓛 Lent lends (λ a. by_contract 𝓛 fm find.ended (find.clauses 𝓛 mem run) (to_find a) known
           search_val (tells F.the_type F'.the_laws) (λ k. k ≡ looked 0 f (take n ys)) (λ k ws. id⊢ 𝓤 _)
           (Lent a) (Had κ q b o γ ys) (sem 𝓛 (Kept a.0)) (goes a) (comes_back a.0))

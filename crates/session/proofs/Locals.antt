@@ -64,9 +64,9 @@ module _ {M : Type 1} {𝓤 : Ura M} {𝓛 : Logic 𝓤} {K : Type 0} {Γ : List
 
   module _ (t : K) (n : ℕ) {τ : Ty} {b : ℕ} {g : Goal 𝓤 H} (own : nth 𝓛 n (del 𝓛 n Γ) ≡ ‵ (fdies τ b)) where
     -- the next local to be freed is entry n, which is room, and what may free it is the entry behind it
-    frees-at : {j : Item 𝓤} → ent 𝓤 (mean 𝓛 j) (H.room τ b zero) → nth 𝓛 n Γ ≡ j
+    frees_at : {j : Item 𝓤} → ent 𝓤 (mean 𝓛 j) (H.room τ b zero) → nth 𝓛 n Γ ≡ j
         → Step K 𝓛 (del 𝓛 n (del 𝓛 n Γ)) (frees E g) Γ (frees ((τ, b) ∷ E) g)
-    frees-at {j} room e = step (λ s. record {
+    frees_at {j} room e = step (λ s. record {
       prf =
           via 𝓤 (sep 𝓤 (mean 𝓛 j) (⋆ 𝓛 (del 𝓛 n Γ)))
           (subst (λ (i : Item 𝓤). ent 𝓤 (⋆ 𝓛 Γ) (sep 𝓤 (mean 𝓛 i) (⋆ 𝓛 (del 𝓛 n Γ)))) e (pull 𝓛 n Γ))
@@ -83,10 +83,10 @@ module _ {M : Type 1} {𝓤 : Ura M} {𝓛 : Logic 𝓤} {K : Type 0} {Γ : List
   pub freed : K → (n : ℕ) {τ : Ty} {b : ℕ} {v : Val} {g : Goal 𝓤 H} → nth 𝓛 n Γ ≡ ‵ (fat full_share τ b zero v)
       → nth 𝓛 n (del 𝓛 n Γ) ≡ ‵ (fdies τ b)
       → Step K 𝓛 (del 𝓛 n (del 𝓛 n Γ)) (frees E g) Γ (frees ((τ, b) ∷ E) g)
-  freed t n {τ} {b} {v} e own = frees-at t n own (𝓛.laws.at_room τ b zero v) e
+  freed t n {τ} {b} {v} e own = frees_at t n own (𝓛.laws.at_room τ b zero v) e
 
   -- it was never set
-  pub freed-unset : K → (n : ℕ) {τ : Ty} {b : ℕ} {g : Goal 𝓤 H} → nth 𝓛 n Γ ≡ ‵ (froom τ b zero)
+  pub freed_unset : K → (n : ℕ) {τ : Ty} {b : ℕ} {g : Goal 𝓤 H} → nth 𝓛 n Γ ≡ ‵ (froom τ b zero)
       → nth 𝓛 n (del 𝓛 n Γ) ≡ ‵ (fdies τ b)
       → Step K 𝓛 (del 𝓛 n (del 𝓛 n Γ)) (frees E g) Γ (frees ((τ, b) ∷ E) g)
-  freed-unset t n {τ} {b} e own = frees-at t n own (id⊢ 𝓤 (H.room τ b zero)) e
+  freed_unset t n {τ} {b} e own = frees_at t n own (id⊢ 𝓤 (H.room τ b zero)) e

@@ -28,20 +28,20 @@ Holds T ℓ κ b o γ h = (MutRef ℓ κ (row T)).own_val (ref_to b o γ h) (vpt
 
 module _ {M : Type 1} {𝓤 : Ura M} {𝓛 : Logic 𝓤} {K : Type 0} {Γ : List (Item 𝓤)} {G : Goal 𝓤 𝓛.H}
     (t : K) (z : Soaks G) (T : Declared) (L : Laws T) (ℓ : Lifetime) {κ : Lft} {q : Share} (b o : ℕ) {γ : GName} where
-  pub opens-record : (h : T.D)
+  pub opens_record : (h : T.D)
       → (Is (row T) h (vals T L h)
       → Seq K 𝓛 (‵ (cell_at full_share (row T).mir (vals T L h) b o) ∷ ‵ (fobor κ q (Body (mem (row T)) b o γ))
       ∷ ‵ (fobs γ ((row T).coded.code h)) ∷ ‵ (fauth γ ((row T).coded.code h)) ∷ Γ) G)
       → Seq K 𝓛 (‵ (Holds T ℓ κ b o γ h) ∷ ‵ (flft κ q) ∷ Γ) G
-  opens-record h k = fsplit3 t $ drop t $ opens t z (row T) {h = h} b o (λ vs.
+  opens_record h k = fsplit3 t $ drop t $ opens t z (row T) {h = h} b o (λ vs.
       spelt t (row T) (Is (row T)) (shows 𝓛 (row T)) (vals T L) (tells T L) full_share h vs b o $
       move t (1 ∷ []) $ peeks t (row T) (Is (row T)) (shows 𝓛 (row T)) h (vals T L h) (λ is. drop t $ k is))
 
-  pub closes-record : Plains (fields T) → {u v : Gv} (h : T.D) → Is (row T) h (vals T L h)
+  pub closes_record : Plains (fields T) → {u v : Gv} (h : T.D) → Is (row T) h (vals T L h)
       → Step K 𝓛 (‵ (Holds T ℓ κ b o γ h) ∷ ‵ (flft κ q) ∷ Γ) G
       (‵ (cell_at full_share (row T).mir (vals T L h) b o) ∷ ‵ (fobor κ q (Body (mem (row T)) b o γ)) ∷ ‵ (fobs γ u)
       ∷ ‵ (fauth γ v) ∷ Γ) G
-  closes-record plain h is = step (λ s. owned t (row T) (Is (row T)) (makes T plain 𝓛) h (vals T L h) is $
+  closes_record plain h is = step (λ s. owned t (row T) (Is (row T)) (makes T plain 𝓛) h (vals T L h) is $
       move t (1 ∷ 0 ∷ []) $ closes t z (row T) h (vals T L h) b o $ feq_i t (List Val) (vptr b o ∷ []) (vptr b o ∷ []) refl $ fjoin3 t $ s)
 
 -- what a function has at entry that is lent a record and then a list: of each what its reference owns, beside its lifetime's

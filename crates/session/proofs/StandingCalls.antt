@@ -43,7 +43,7 @@ use Rattle.standing.specs.contracts.searches.look_for_next as look-for-next
 use Rattle.standing.proofs.searches.look_for_next.Symbol.{name as #look-for-next}
 use Rattle.session.proofs.Answers.{Returns, by_value}
 use Rattle.session.proofs.Values.{session_val, entry_val, terminal_val, search_val, IsSession, IsEntry, IsTerminal}
-use Rattle.session.proofs.Values.{IsSearch, made-session, made-entry, made-terminal, made-search, made-number}
+use Rattle.session.proofs.Values.{IsSearch, made_session, made_entry, made_terminal, made_search, made_number}
 
 module _ {M : Type 1} {𝓤 : Ura M} (𝓛 : Logic 𝓤) (mem : Memory → SProp 𝓤) (run : Routine → Fun 𝓤) where
   -- the contracts
@@ -65,41 +65,41 @@ module _ {M : Type 1} {𝓤 : Ura M} (𝓛 : Logic 𝓤) (mem : Memory → SProp
   LookForNextSays = triple_of 𝓛 look-for-next.signature (look-for-next.spec 𝓛 mem run)
 
   module _ {C : Calls 𝓤 H} (fm : FmC 𝓤 H 𝓛.laws C) where
-    pub least-answers : Triple 𝓤 (C #least) LeastSays → (a b : ℕ) → a < 2 ^ 64 → b < 2 ^ 64
+    pub least_answers : Triple 𝓤 (C #least) LeastSays → (a b : ℕ) → a < 2 ^ 64 → b < 2 ^ 64
         → Returns 𝓛 C #least (vint w64 a ∷ vint w64 b ∷ []) (‵ ftrue) (vint w64)
         (λ r. Is usize r (vint w64 r ∷ []) × (r ≡ min a b)) (λ _. ‵ ftrue)
-    least-answers known a b ga gb = by_value 𝓛 fm least.ended (least.clauses 𝓛 mem run)
+    least_answers known a b ga gb = by_value 𝓛 fm least.ended (least.clauses 𝓛 mem run)
         ((tt, tt, tt, (a, (b, tt)), (vint w64 a ∷ [], (vint w64 b ∷ [], tt))), tt) known
         (vint w64) (uint_Tells w64) (λ r. r ≡ min a b) (λ r ws. id⊢ 𝓤 _) (id⊢ 𝓤 _)
-        (made-number 𝓛, (made-number 𝓛, tt)) ((refl, ga), ((refl, gb), tt)) (id⊢ 𝓤 _)
+        (made_number 𝓛, (made_number 𝓛, tt)) ((refl, ga), ((refl, gb), tt)) (id⊢ 𝓤 _)
 
-    pub blank-entry-answers : Triple 𝓤 (C #blank-entry) BlankEntrySays
+    pub blank_entry_answers : Triple 𝓤 (C #blank-entry) BlankEntrySays
         → Returns 𝓛 C #blank-entry [] (‵ ftrue) entry_val (λ e. IsEntry e × (e ≡ blank_entry)) (λ _. ‵ ftrue)
-    blank-entry-answers known = by_value 𝓛 fm blank-entry.ended (blank-entry.clauses 𝓛 mem run)
+    blank_entry_answers known = by_value 𝓛 fm blank-entry.ended (blank-entry.clauses 𝓛 mem run)
         ((tt, tt, tt, tt, tt), tt) known
         entry_val (tells E.the_type E'.the_laws) (λ e. e ≡ blank_entry) (λ e ws. id⊢ 𝓤 _) (id⊢ 𝓤 _) tt tt (id⊢ 𝓤 _)
 
-    pub examine-answers : Triple 𝓤 (C #examine) ExamineSays → (f : Search) (e : Entry) (p : ℕ) → IsSearch f → IsEntry e
+    pub examine_answers : Triple 𝓤 (C #examine) ExamineSays → (f : Search) (e : Entry) (p : ℕ) → IsSearch f → IsEntry e
         → p < 2 ^ 64 → Returns 𝓛 C #examine (search_val f ∷ entry_val e ∷ vint w64 p ∷ []) (‵ ftrue) search_val
         (λ r. IsSearch r × (r ≡ examined f e p)) (λ _. ‵ ftrue)
-    examine-answers known f e p gf ge gp = by_value 𝓛 fm examine.ended (examine.clauses 𝓛 mem run)
+    examine_answers known f e p gf ge gp = by_value 𝓛 fm examine.ended (examine.clauses 𝓛 mem run)
         ((tt, tt, tt, (f, (e, (p, tt))), (search_val f ∷ [], (entry_val e ∷ [], (vint w64 p ∷ [], tt)))), tt) known
         search_val (tells F.the_type F'.the_laws) (λ r. r ≡ examined f e p) (λ r ws. id⊢ 𝓤 _) (id⊢ 𝓤 _)
-        (made-search 𝓛, (made-entry 𝓛, (made-number 𝓛, tt))) (gf, (ge, ((refl, gp), tt))) (id⊢ 𝓤 _)
+        (made_search 𝓛, (made_entry 𝓛, (made_number 𝓛, tt))) (gf, (ge, ((refl, gp), tt))) (id⊢ 𝓤 _)
 
     module _ (h : Session) (x : Terminal) (gh : IsSession h) (gx : IsTerminal x) where
-      pub look-for-answers : Triple 𝓤 (C #look-for) LookForSays
+      pub look_for_answers : Triple 𝓤 (C #look-for) LookForSays
           → Returns 𝓛 C #look-for (session_val h ∷ terminal_val x ∷ []) (‵ ftrue) search_val
           (λ f. IsSearch f × (f ≡ looking h x)) (λ _. ‵ ftrue)
-      look-for-answers known = by_value 𝓛 fm look-for.ended (look-for.clauses 𝓛 mem run)
+      look_for_answers known = by_value 𝓛 fm look-for.ended (look-for.clauses 𝓛 mem run)
           ((tt, tt, tt, (h, (x, tt)), (session_val h ∷ [], (terminal_val x ∷ [], tt))), tt) known
           search_val (tells F.the_type F'.the_laws) (λ f. f ≡ looking h x) (λ f ws. id⊢ 𝓤 _) (id⊢ 𝓤 _)
-          (made-session 𝓛, (made-terminal 𝓛, tt)) (gh, (gx, tt)) (id⊢ 𝓤 _)
+          (made_session 𝓛, (made_terminal 𝓛, tt)) (gh, (gx, tt)) (id⊢ 𝓤 _)
 
-      pub look-for-next-answers : Triple 𝓤 (C #look-for-next) LookForNextSays
+      pub look_for_next_answers : Triple 𝓤 (C #look-for-next) LookForNextSays
           → Returns 𝓛 C #look-for-next (session_val h ∷ terminal_val x ∷ []) (‵ ftrue) search_val
           (λ f. IsSearch f × (f ≡ looking_next h x)) (λ _. ‵ ftrue)
-      look-for-next-answers known = by_value 𝓛 fm look-for-next.ended (look-for-next.clauses 𝓛 mem run)
+      look_for_next_answers known = by_value 𝓛 fm look-for-next.ended (look-for-next.clauses 𝓛 mem run)
           ((tt, tt, tt, (h, (x, tt)), (session_val h ∷ [], (terminal_val x ∷ [], tt))), tt) known
           search_val (tells F.the_type F'.the_laws) (λ f. f ≡ looking_next h x) (λ f ws. id⊢ 𝓤 _) (id⊢ 𝓤 _)
-          (made-session 𝓛, (made-terminal 𝓛, tt)) (gh, (gx, tt)) (id⊢ 𝓤 _)
+          (made_session 𝓛, (made_terminal 𝓛, tt)) (gh, (gx, tt)) (id⊢ 𝓤 _)

@@ -106,70 +106,70 @@ pub waiting_fits : (h : Session) → IsSession h → h.waiting < 2 ^ 64
 waiting_fits h is = (owed Session'.the_type SessionLaws.the_laws h _ is).1.1.1.0.1
 
 module _ {M : Type 1} {𝓤 : Ura M} (𝓛 : Logic 𝓤) where
-  pub typed-table : (x : Table) → IsTable x → T (has_ty TableLaws.mir (table_val x)) × WT (table_val x)
-  typed-table x is = ((lawful Table'.the_type TableLaws.the_laws 𝓛).typed x _ is).0
+  pub typed_table : (x : Table) → IsTable x → T (has_ty TableLaws.mir (table_val x)) × WT (table_val x)
+  typed_table x is = ((lawful Table'.the_type TableLaws.the_laws 𝓛).typed x _ is).0
 
-  pub typed-session : (x : Session) → IsSession x → T (has_ty SessionLaws.mir (session_val x)) × WT (session_val x)
-  typed-session x is = ((lawful Session'.the_type SessionLaws.the_laws 𝓛).typed x _ is).0
+  pub typed_session : (x : Session) → IsSession x → T (has_ty SessionLaws.mir (session_val x)) × WT (session_val x)
+  typed_session x is = ((lawful Session'.the_type SessionLaws.the_laws 𝓛).typed x _ is).0
 
-  pub typed-entry : (x : Entry) → IsEntry x → T (has_ty EntryLaws.mir (entry_val x)) × WT (entry_val x)
-  typed-entry x is = ((lawful Entry'.the_type EntryLaws.the_laws 𝓛).typed x _ is).0
+  pub typed_entry : (x : Entry) → IsEntry x → T (has_ty EntryLaws.mir (entry_val x)) × WT (entry_val x)
+  typed_entry x is = ((lawful Entry'.the_type EntryLaws.the_laws 𝓛).typed x _ is).0
 
-  pub typed-terminal : (x : Terminal) → IsTerminal x → T (has_ty TerminalLaws.mir (terminal_val x)) × WT (terminal_val x)
-  typed-terminal x is = ((lawful Terminal'.the_type TerminalLaws.the_laws 𝓛).typed x _ is).0
+  pub typed_terminal : (x : Terminal) → IsTerminal x → T (has_ty TerminalLaws.mir (terminal_val x)) × WT (terminal_val x)
+  typed_terminal x is = ((lawful Terminal'.the_type TerminalLaws.the_laws 𝓛).typed x _ is).0
 
-  pub typed-search : (x : Search) → IsSearch x → T (has_ty SearchLaws.mir (search_val x)) × WT (search_val x)
-  typed-search x is = ((lawful Search'.the_type SearchLaws.the_laws 𝓛).typed x _ is).0
+  pub typed_search : (x : Search) → IsSearch x → T (has_ty SearchLaws.mir (search_val x)) × WT (search_val x)
+  typed_search x is = ((lawful Search'.the_type SearchLaws.the_laws 𝓛).typed x _ is).0
 
-  pub typed-opened : (x : Opened) → IsOpened x → T (has_ty OpenedLaws.mir (opened_val x)) × WT (opened_val x)
-  typed-opened x is = ((lawful Opened'.the_type OpenedLaws.the_laws 𝓛).typed x _ is).0
+  pub typed_opened : (x : Opened) → IsOpened x → T (has_ty OpenedLaws.mir (opened_val x)) × WT (opened_val x)
+  typed_opened x is = ((lawful Opened'.the_type OpenedLaws.the_laws 𝓛).typed x _ is).0
 
-  pub typed-asked : (x : Asked) → IsAsked x → T (has_ty AskedLaws.mir (asked_val x)) × WT (asked_val x)
-  typed-asked x is = ((lawful Asked'.the_type AskedLaws.the_laws 𝓛).typed x _ is).0
+  pub typed_asked : (x : Asked) → IsAsked x → T (has_ty AskedLaws.mir (asked_val x)) × WT (asked_val x)
+  typed_asked x is = ((lawful Asked'.the_type AskedLaws.the_laws 𝓛).typed x _ is).0
 
-  pub typed-handed : (x : Handed) → IsHanded x → T (has_ty HandedLaws.mir (handed_val x)) × WT (handed_val x)
-  typed-handed x is = ((lawful Handed'.the_type HandedLaws.the_laws 𝓛).typed x _ is).0
+  pub typed_handed : (x : Handed) → IsHanded x → T (has_ty HandedLaws.mir (handed_val x)) × WT (handed_val x)
+  typed_handed x is = ((lawful Handed'.the_type HandedLaws.the_laws 𝓛).typed x _ is).0
 
-  pub typed-withdrawn : (x : Withdrawn) → IsWithdrawn x → T (has_ty WithdrawnLaws.mir (withdrawn_val x)) × WT (withdrawn_val x)
-  typed-withdrawn x is = ((lawful Withdrawn'.the_type WithdrawnLaws.the_laws 𝓛).typed x _ is).0
+  pub typed_withdrawn : (x : Withdrawn) → IsWithdrawn x → T (has_ty WithdrawnLaws.mir (withdrawn_val x)) × WT (withdrawn_val x)
+  typed_withdrawn x is = ((lawful Withdrawn'.the_type WithdrawnLaws.the_laws 𝓛).typed x _ is).0
 
 -- ---- had for nothing
 module _ {M : Type 1} {𝓤 : Ura M} (𝓛 : Logic 𝓤) where
   pub made_table : Makes 𝓛 Table'.the_row (Is Table'.the_row)
   made_table = makes Table'.the_type TableLaws.the_plain 𝓛
 
-  pub made-session : Makes 𝓛 Session'.the_row (Is Session'.the_row)
-  made-session = makes Session'.the_type SessionLaws.the_plain 𝓛
+  pub made_session : Makes 𝓛 Session'.the_row (Is Session'.the_row)
+  made_session = makes Session'.the_type SessionLaws.the_plain 𝓛
 
-  pub made-entry : Makes 𝓛 Entry'.the_row (Is Entry'.the_row)
-  made-entry = makes Entry'.the_type EntryLaws.the_plain 𝓛
+  pub made_entry : Makes 𝓛 Entry'.the_row (Is Entry'.the_row)
+  made_entry = makes Entry'.the_type EntryLaws.the_plain 𝓛
 
-  pub made-terminal : Makes 𝓛 Terminal'.the_row (Is Terminal'.the_row)
-  made-terminal = makes Terminal'.the_type TerminalLaws.the_plain 𝓛
+  pub made_terminal : Makes 𝓛 Terminal'.the_row (Is Terminal'.the_row)
+  made_terminal = makes Terminal'.the_type TerminalLaws.the_plain 𝓛
 
-  pub made-search : Makes 𝓛 Search'.the_row (Is Search'.the_row)
-  made-search = makes Search'.the_type SearchLaws.the_plain 𝓛
+  pub made_search : Makes 𝓛 Search'.the_row (Is Search'.the_row)
+  made_search = makes Search'.the_type SearchLaws.the_plain 𝓛
 
-  pub made-number : Makes 𝓛 usize (Is usize)
-  made-number = uint_Makes 𝓛 w64
+  pub made_number : Makes 𝓛 usize (Is usize)
+  made_number = uint_Makes 𝓛 w64
 
 -- as a step
 module _ {M : Type 1} {𝓤 : Ura M} {𝓛 : Logic 𝓤} {K : Type 0} {Γ : List (Item 𝓤)}
     {G : Goal 𝓤 𝓛.H} where
-  pub table-owned : K → (x : Table) → IsTable x → Step K 𝓛 (‵ ((Table'.the_row).own_val x (table_val x ∷ [])) ∷ Γ) G Γ G
-  table-owned t x is = owned t Table'.the_row (Is Table'.the_row) (made_table 𝓛) x (table_val x ∷ []) is
+  pub table_owned : K → (x : Table) → IsTable x → Step K 𝓛 (‵ ((Table'.the_row).own_val x (table_val x ∷ [])) ∷ Γ) G Γ G
+  table_owned t x is = owned t Table'.the_row (Is Table'.the_row) (made_table 𝓛) x (table_val x ∷ []) is
 
-  pub session-owned : K → (x : Session) → IsSession x → Step K 𝓛 (‵ ((Session'.the_row).own_val x (session_val x ∷ [])) ∷ Γ) G Γ G
-  session-owned t x is = owned t Session'.the_row (Is Session'.the_row) (made-session 𝓛) x (session_val x ∷ []) is
+  pub session_owned : K → (x : Session) → IsSession x → Step K 𝓛 (‵ ((Session'.the_row).own_val x (session_val x ∷ [])) ∷ Γ) G Γ G
+  session_owned t x is = owned t Session'.the_row (Is Session'.the_row) (made_session 𝓛) x (session_val x ∷ []) is
 
-  pub entry-owned : K → (x : Entry) → IsEntry x → Step K 𝓛 (‵ ((Entry'.the_row).own_val x (entry_val x ∷ [])) ∷ Γ) G Γ G
-  entry-owned t x is = owned t Entry'.the_row (Is Entry'.the_row) (made-entry 𝓛) x (entry_val x ∷ []) is
+  pub entry_owned : K → (x : Entry) → IsEntry x → Step K 𝓛 (‵ ((Entry'.the_row).own_val x (entry_val x ∷ [])) ∷ Γ) G Γ G
+  entry_owned t x is = owned t Entry'.the_row (Is Entry'.the_row) (made_entry 𝓛) x (entry_val x ∷ []) is
 
-  pub terminal-owned : K → (x : Terminal) → IsTerminal x → Step K 𝓛 (‵ ((Terminal'.the_row).own_val x (terminal_val x ∷ [])) ∷ Γ) G Γ G
-  terminal-owned t x is = owned t Terminal'.the_row (Is Terminal'.the_row) (made-terminal 𝓛) x (terminal_val x ∷ []) is
+  pub terminal_owned : K → (x : Terminal) → IsTerminal x → Step K 𝓛 (‵ ((Terminal'.the_row).own_val x (terminal_val x ∷ [])) ∷ Γ) G Γ G
+  terminal_owned t x is = owned t Terminal'.the_row (Is Terminal'.the_row) (made_terminal 𝓛) x (terminal_val x ∷ []) is
 
-  pub search-owned : K → (x : Search) → IsSearch x → Step K 𝓛 (‵ ((Search'.the_row).own_val x (search_val x ∷ [])) ∷ Γ) G Γ G
-  search-owned t x is = owned t Search'.the_row (Is Search'.the_row) (made-search 𝓛) x (search_val x ∷ []) is
+  pub search_owned : K → (x : Search) → IsSearch x → Step K 𝓛 (‵ ((Search'.the_row).own_val x (search_val x ∷ [])) ∷ Γ) G Γ G
+  search_owned t x is = owned t Search'.the_row (Is Search'.the_row) (made_search 𝓛) x (search_val x ∷ []) is
 
-  pub number-owned : K → (n : ℕ) → n < 2 ^ 64 → Step K 𝓛 (‵ (usize.own_val n (vint w64 n ∷ [])) ∷ Γ) G Γ G
-  number-owned t n g = owned t usize (Is usize) (made-number 𝓛) n (vint w64 n ∷ []) (refl, g)
+  pub number_owned : K → (n : ℕ) → n < 2 ^ 64 → Step K 𝓛 (‵ (usize.own_val n (vint w64 n ∷ [])) ∷ Γ) G Γ G
+  number_owned t n g = owned t usize (Is usize) (made_number 𝓛) n (vint w64 n ∷ []) (refl, g)

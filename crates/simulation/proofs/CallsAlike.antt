@@ -22,7 +22,7 @@ use Rattle.meaning.proofs.NumberLaws.{number_held}
 use Rattle.table.specs.Cells.{names_of}
 use Rattle.table.specs.Following.{permission_set, found_in, permission_of, table_permits}
 use Rattle.table.specs.declared.cells.Table.{Table}
-use Rattle.table.proofs.OperationNames.{permission-named}
+use Rattle.table.proofs.OperationNames.{permission_named}
 use Rattle.standing.specs.declared.entries.Entry.{Entry}
 use Rattle.standing.specs.declared.records.Session.{Session}
 use Rattle.standing.specs.declared.records.State.{State}
@@ -31,7 +31,7 @@ use Rattle.standing.specs.declared.searches.Found.{Found}
 use Rattle.standing.specs.declared.searches.Found.TheVariants.{Nobody, At}
 use Rattle.standing.specs.Lists.{blank_entry, in_use, place_of, put_at, taken_out}
 use Rattle.standing.specs.Soundness.{meets_set}
-use Rattle.standing.proofs.Seeking.{Finds, seek_finds, found-in-use}
+use Rattle.standing.proofs.Seeking.{Finds, seek_finds, found_in_use}
 use Rattle.steps.specs.declared.replies.AskReply.TheVariants.{Granted, Delayed}
 use Rattle.steps.specs.declared.replies.Grant.{Grant}
 use Rattle.steps.specs.declared.replies.Next.TheVariants.{Granted as Grants, Nobody as NoNext}
@@ -45,10 +45,10 @@ use Rattle.steps.specs.Refusals.{Row, None}
 use Rattle.simulation.specs.Runs.{ReplyTo, Leaves}
 use Rattle.simulation.specs.Hearing.{entry_heard}
 use Rattle.simulation.specs.Likeness.{known_in, runner_in, set_at, SetStands, Alike}
-use Rattle.simulation.proofs.Histories.{set-moves-on, permitted-next}
-use Rattle.simulation.proofs.EntriesHeard.{foundHeard, seek-heard, place-heard, put-heard, taken-heard}
-use Rattle.simulation.proofs.Leaving.{leaves-sound, leaves-rest}
-use Rattle.simulation.proofs.Answering.{Answered, Verdict, entry-alike, tested-alike, refused-alike}
+use Rattle.simulation.proofs.Histories.{set_moves_on, permitted_next}
+use Rattle.simulation.proofs.EntriesHeard.{found_heard, seek_heard, place_heard, put_heard, taken_heard}
+use Rattle.simulation.proofs.Leaving.{leaves_sound, leaves_rest}
+use Rattle.simulation.proofs.Answering.{Answered, Verdict, entry_alike, tested_alike, refused_alike}
 
 module _ (s : Session) (l : List Entry) (i : Line) (a : Alike s.table s l i) where
   abbrev t : Table
@@ -57,14 +57,14 @@ module _ (s : Session) (l : List Entry) (i : Line) (a : Alike s.table s l i) whe
   as_many : length (in_use s l) ≡ s.waiting
   as_many = length-take-le s.waiting l (omega (arith, a.is_sound.record_sound.count_most, a.long_list))
 
-  as-many-heard : length i.waiting ≡ s.waiting
-  as-many-heard = rw (← a.same_entries, length-map) as_many
+  as_many_heard : length i.waiting ≡ s.waiting
+  as_many_heard = rw (← a.same_entries, length-map) as_many
 
   -- the name of an operation is permitted after the grants exactly if the operation meets the set after them
-  meets-alike : (x : ℕ) → x ≡ set_at t i.history → (k : Name) (o : ℕ) → permission_of t k ≡ permission_set t o
+  meets_alike : (x : ℕ) → x ≡ set_at t i.history → (k : Name) (o : ℕ) → permission_of t k ≡ permission_set t o
       → table_permits t (i.history ++ k ∷ []) ≡ meeting x (permission_set t o)
-  meets-alike x after k o same =
-      permitted-next t i.history k a.grants_permitted ∙ ap₂ meeting (sym after) same
+  meets_alike x after k o same =
+      permitted_next t i.history k a.grants_permitted ∙ ap₂ meeting (sym after) same
 
   -- the set that is shared with a grant
   shared_alike : (u x : ℕ) → x ≡ set_at t i.history → (k : Name) (o : ℕ) → permission_of t k ≡ permission_set t o
@@ -72,14 +72,14 @@ module _ (s : Session) (l : List Entry) (i : Line) (a : Alike s.table s l i) whe
   shared_alike u x after k o same = (i.history, k, refl, ap₂ bit_and after (sym same))
 
   -- after a call that leaves these, record and list are sound and long enough; so the lines are alike if the rest is
-  alike-after : (c : Call) (r : ReplyTo c) (s' : Session) (l' : List Entry) (j : Line) → Leaves s l c r s' l' → s'.table ≡ t
+  alike_after : (c : Call) (r : ReplyTo c) (s' : Session) (l' : List Entry) (j : Line) → Leaves s l c r s' l' → s'.table ≡ t
       → table_permits t j.history ≡ true → SetStands t j.running j.history s'.set → runner_in s'.state ≡ j.running
       → map (entry_heard t) (in_use s' l') ≡ j.waiting → Alike t s' l' j
-  alike-after c r s' l' j by table permitted its runner entries =
+  alike_after c r s' l' j by table permitted its runner entries =
       record {
         its_table = table;
-        is_sound = leaves-sound s s' l l' c r by a.is_sound;
-        long_list = omega (arith, (leaves-rest s s' l l' c r by).0, a.long_list);
+        is_sound = leaves_sound s s' l l' c r by a.is_sound;
+        long_list = omega (arith, (leaves_rest s s' l l' c r by).0, a.long_list);
         grants_permitted = permitted;
         its_set = its;
         same_runner = runner;
@@ -92,83 +92,83 @@ module _ (s : Session) (l : List Entry) (i : Line) (a : Alike s.table s l i) whe
     abbrev e : Entry
     e = entry_for s (record { 0 = u }) n
 
-    permission-same : permission_of t (key n) ≡ permission_set t e.operation.0
+    permission_same : permission_of t (key n) ≡ permission_set t e.operation.0
     unfolding permission_of found_in
-    permission-same = rw known
+    permission_same = rw known
 
-    entry-same : entry_heard t e ≡ record { terminal = u; name = key n }
-    entry-same = ap (λ (k : Name). record { terminal = u; name = k }) (number_held (names_of t) (key n) known)
+    entry_same : entry_heard t e ≡ record { terminal = u; name = key n }
+    entry_same = ap (λ (k : Name). record { terminal = u; name = k }) (number_held (names_of t) (key n) known)
 
     -- both lines ask the same: whether the line is free, and the name permitted
-    test-same : (st : State) (r : Option ℕ) → runner_in st ≡ r → SetStands t r i.history s.set
+    test_same : (st : State) (r : Option ℕ) → runner_in st ≡ r → SetStands t r i.history s.set
         → (free r && table_permits t (i.history ++ key n ∷ [])) ≡ (is_free st && meets_set s e.operation.0)
-    test-same Free none q its = meets-alike s.set its (key n) e.operation.0 permission-same
-    test-same Free (some v) q its = cc
-    test-same (Running v) none q its = cc
-    test-same (Running v) (some w) q its = refl
+    test_same Free none q its = meets_alike s.set its (key n) e.operation.0 permission_same
+    test_same Free (some v) q its = cc
+    test_same (Running v) none q its = cc
+    test_same (Running v) (some w) q its = refl
 
-    abbrev asked-for : Named
-    asked-for = record { terminal = u; name = key n }
+    abbrev asked_for : Named
+    asked_for = record { terminal = u; name = key n }
 
-    ideal-test : (b : Bool) → (is_free s.state && meets_set s e.operation.0) ≡ b
+    ideal_test : (b : Bool) → (is_free s.state && meets_set s e.operation.0) ≡ b
         → (free i.running && table_permits t (i.history ++ key n ∷ [])) ≡ b
-    ideal-test b test = test-same s.state i.running a.same_runner a.its_set ∙ test
+    ideal_test b test = test_same s.state i.running a.same_runner a.its_set ∙ test
 
     -- of a free line the set is the set after all grants
-    free-set : (r : Option ℕ) → free r ≡ true → SetStands t r i.history s.set → s.set ≡ set_at t i.history
-    free-set none is its = its
-    free-set (some v) is its = absurd (false≢true is)
+    free_set : (r : Option ℕ) → free r ≡ true → SetStands t r i.history s.set → s.set ≡ set_at t i.history
+    free_set none is its = its
+    free_set (some v) is its = absurd (false≢true is)
 
-    ask-granted : (is_free s.state && meets_set s e.operation.0) ≡ true → Answered t s l i (ask u n)
+    ask_granted : (is_free s.state && meets_set s e.operation.0) ≡ true → Answered t s l i (ask u n)
     unfolding step ask_step builtAsk
-    ask-granted test =
-        let (is_free, permitted) = (and-eq-true_iff (free i.running) _).0 (ideal-test true test) in
+    ask_granted test =
+        let (is_free, permitted) = (and-eq-true_iff (free i.running) _).0 (ideal_test true test) in
         let by : Leaves s l (ask u n) Granted (granting s e s.waiting) l = does none-applies (rw test) in
         record {
           reply = Granted;
           session = granting s e s.waiting;
           list = l;
           leaves = by;
-          same_reply = rw (goes_on, ideal-test true test);
-          still_alike = rw (goes_on, ideal-test true test)
-              (alike-after (ask u n) Granted (granting s e s.waiting) l (grants i asked-for i.waiting) by refl permitted
-              (shared_alike u s.set (free-set i.running is_free a.its_set) (key n) e.operation.0 permission-same)
+          same_reply = rw (goes_on, ideal_test true test);
+          still_alike = rw (goes_on, ideal_test true test)
+              (alike_after (ask u n) Granted (granting s e s.waiting) l (grants i asked_for i.waiting) by refl permitted
+              (shared_alike u s.set (free_set i.running is_free a.its_set) (key n) e.operation.0 permission_same)
               refl a.same_entries);
         }
 
-    ask-delayed : (is_free s.state && meets_set s e.operation.0) ≡ false → Answered t s l i (ask u n)
+    ask_delayed : (is_free s.state && meets_set s e.operation.0) ≡ false → Answered t s l i (ask u n)
     unfolding step ask_step builtAsk
-    ask-delayed test =
+    ask_delayed test =
         let place = place_of (in_use s l) e in
         let later = counting s (suc s.waiting) in
         let by : Leaves s l (ask u n) (Delayed place) later (put_at place e l) = does none-applies (rw test) in
-        let room = (leaves-sound s later l _ (ask u n) (Delayed place) by a.is_sound).record_sound.count_most in
+        let room = (leaves_sound s later l _ (ask u n) (Delayed place) by a.is_sound).record_sound.count_most in
         let es = i.waiting in
-        let waits : Line = record { history = i.history; running = i.running; waiting = put (placed es asked-for) asked-for es } in
-        let same_place : placed es asked-for ≡ place = rw (← a.same_entries) (place-heard (entry_heard t) (in_use s l) e) in
+        let waits : Line = record { history = i.history; running = i.running; waiting = put (placed es asked_for) asked_for es } in
+        let same_place : placed es asked_for ≡ place = rw (← a.same_entries) (place_heard (entry_heard t) (in_use s l) e) in
         let entries : map (entry_heard t) (take (suc s.waiting) (put_at place e l)) ≡ waits.waiting =
-        rw (← a.same_entries, ← entry-same) (put-heard (entry_heard t) s.waiting l e (omega (arith, room, a.long_list))) in
+        rw (← a.same_entries, ← entry_same) (put_heard (entry_heard t) s.waiting l e (omega (arith, room, a.long_list))) in
         record {
           reply = Delayed place;
           session = later;
           list = put_at place e l;
           leaves = by;
-          same_reply = rw (goes_on, ideal-test false test, same_place);
-          still_alike = rw (goes_on, ideal-test false test)
-              (alike-after (ask u n) (Delayed place) later (put_at place e l) waits by refl a.grants_permitted a.its_set
+          same_reply = rw (goes_on, ideal_test false test, same_place);
+          still_alike = rw (goes_on, ideal_test false test)
+              (alike_after (ask u n) (Delayed place) later (put_at place e l) waits by refl a.grants_permitted a.its_set
               a.same_runner entries);
         }
 
-    ask-alike : Answered t s l i (ask u n)
-    ask-alike = go (is_free s.state && meets_set s e.operation.0) refl
+    ask_alike : Answered t s l i (ask u n)
+    ask_alike = go (is_free s.state && meets_set s e.operation.0) refl
       where
         go : (b : Bool) → (is_free s.state && meets_set s e.operation.0) ≡ b → Answered t s l i (ask u n)
-        go true test = ask-granted test
-        go false test = ask-delayed test
+        go true test = ask_granted test
+        go false test = ask_delayed test
 
   -- an entry in use asks for an operation that there is
-  exists-in-use : (j : ℕ) → j < length (in_use s l) → (get_or (in_use s l) j blank_entry).operation.0 < t.names
-  exists-in-use j h =
+  exists_in_use : (j : ℕ) → j < length (in_use s l) → (get_or (in_use s l) j blank_entry).operation.0 < t.names
+  exists_in_use j h =
       let there : j < s.waiting = omega (arith, h, as_many) in
       let same = ap (λ (e : Entry). e.operation.0) (get_or-take s.waiting l j blank_entry there) in
       omega (arith, same, a.is_sound.operations_exist j there)
@@ -180,26 +180,26 @@ module _ (s : Session) (l : List Entry) (i : Line) (a : Alike s.table s l i) whe
     moved : union_of t.rows s.set ≡ set_at t i.history
     moved =
         let (g, k, is, shared) = subst (λ (r : Option ℕ). SetStands t r i.history s.set) runs-now a.its_set in
-        ap (union_of t.rows) shared ∙ sym (set-moves-on t g k) ∙ ap (set_at t) (sym is)
+        ap (union_of t.rows) shared ∙ sym (set_moves_on t g k) ∙ ap (set_at t) (sym is)
 
     -- both lines pick the same entry
-    picks-same : picked (table_permits t) (known_in t) i ≡ foundHeard (entry_heard t) (builtPick (freed s) l)
+    picks_same : picked (table_permits t) (known_in t) i ≡ found_heard (entry_heard t) (builtPick (freed s) l)
     unfolding picked builtPick
-    picks-same =
+    picks_same =
         rw (← a.same_entries)
-        (seek-heard (entry_heard t) (λ e. meets_set (freed s) e.operation.0) (λ e. table_permits t (i.history ++ e.name ∷ [])) (in_use s l)
-        (λ j h. meets-alike _ moved _ _ (permission-named t a.is_sound.record_sound.table_sound _ (exists-in-use j h))))
+        (seek_heard (entry_heard t) (λ e. meets_set (freed s) e.operation.0) (λ e. table_permits t (i.history ++ e.name ∷ [])) (in_use s l)
+        (λ j h. meets_alike _ moved _ _ (permission_named t a.is_sound.record_sound.table_sound _ (exists_in_use j h))))
 
     abbrev Picks : Found → Type 0
     Picks = Finds (λ e. meets_set (freed s) e.operation.0) (in_use s l)
 
-    examined-same : (f : Found) → examined_to (table_permits t) (known_in t) i (foundHeard (entry_heard t) f) ≡ builtExamined (freed s) l f
-    examined-same Nobody = as-many-heard
-    examined-same (At w) = refl
+    examined_same : (f : Found) → examined_to (table_permits t) (known_in t) i (found_heard (entry_heard t) f) ≡ builtExamined (freed s) l f
+    examined_same Nobody = as_many_heard
+    examined_same (At w) = refl
 
-    handed-alike : (f : Found) → builtPick (freed s) l ≡ f → Picks f → Answered t s l i (finish u)
+    handed_alike : (f : Found) → builtPick (freed s) l ≡ f → Picks f → Answered t s l i (finish u)
     unfolding step finish_step
-    handed-alike Nobody is finds =
+    handed_alike Nobody is finds =
         let reply = Finished (record { examined = builtExamined (freed s) l Nobody; next = NoNext }) in
         let by : Leaves s l (finish u) reply (freed s) l = does none-applies (rw is) in
         let after : Line = record { history = i.history; running = none; waiting = i.waiting } in
@@ -208,12 +208,12 @@ module _ (s : Session) (l : List Entry) (i : Line) (a : Alike s.table s l i) whe
           session = freed s;
           list = l;
           leaves = by;
-          same_reply = rw (goes_on, picks-same, is)
-              (ap (λ (n : ℕ). finished u (done (record { examined = n; grants = none }))) (sym (examined-same Nobody)));
-          still_alike = rw (goes_on, picks-same, is)
-              (alike-after (finish u) reply (freed s) l after by refl a.grants_permitted moved refl a.same_entries);
+          same_reply = rw (goes_on, picks_same, is)
+              (ap (λ (n : ℕ). finished u (done (record { examined = n; grants = none }))) (sym (examined_same Nobody)));
+          still_alike = rw (goes_on, picks_same, is)
+              (alike_after (finish u) reply (freed s) l after by refl a.grants_permitted moved refl a.same_entries);
         }
-    handed-alike (At w) is finds =
+    handed_alike (At w) is finds =
         let e = w.entry in
         let grant : Grant = record { terminal = e.terminal; operation = e.operation } in
         let reply = Finished (record { examined = builtExamined (freed s) l (At w); next = Grants grant }) in
@@ -222,79 +222,79 @@ module _ (s : Session) (l : List Entry) (i : Line) (a : Alike s.table s l i) whe
         let by : Leaves s l (finish u) reply later left = does none-applies (rw is) in
         let sound = a.is_sound.record_sound in
         let fits : s.waiting ≤ length l = omega (arith, sound.count_most, a.long_list) in
-        let (here, there) = found-in-use s l fits (λ e. meets_set (freed s) e.operation.0) w finds in
+        let (here, there) = found_in_use s l fits (λ e. meets_set (freed s) e.operation.0) w finds in
         let exists : e.operation.0 < t.names =
         omega (arith, ap (λ (d : Entry). d.operation.0) there, a.is_sound.operations_exist w.place here) in
-        let same = permission-named t sound.table_sound e.operation.0 exists in
+        let same = permission_named t sound.table_sound e.operation.0 exists in
         let entries : map (entry_heard t) (take (s.waiting - 1) left) ≡ without w.place i.waiting =
-        rw (← a.same_entries) (taken-heard (entry_heard t) s.waiting w.place l here fits) in
+        rw (← a.same_entries) (taken_heard (entry_heard t) s.waiting w.place l here fits) in
         record {
           reply = reply;
           session = later;
           list = left;
           leaves = by;
-          same_reply = rw (goes_on, picks-same, is);
-          still_alike = rw (goes_on, picks-same, is)
-              (alike-after (finish u) reply later left (grants i (entry_heard t e) (without w.place i.waiting)) by refl
-              (meets-alike _ moved _ _ same ∙ finds.passes) (shared_alike e.terminal.0 _ moved _ _ same) refl entries);
+          same_reply = rw (goes_on, picks_same, is);
+          still_alike = rw (goes_on, picks_same, is)
+              (alike_after (finish u) reply later left (grants i (entry_heard t e) (without w.place i.waiting)) by refl
+              (meets_alike _ moved _ _ same ∙ finds.passes) (shared_alike e.terminal.0 _ moved _ _ same) refl entries);
         }
 
-    finish-alike : Answered t s l i (finish u)
+    finish_alike : Answered t s l i (finish u)
     unfolding builtPick
-    finish-alike = handed-alike (builtPick (freed s) l) refl (seek_finds _ (in_use s l))
+    finish_alike = handed_alike (builtPick (freed s) l) refl (seek_finds _ (in_use s l))
 
   -- a withdrawal
   module _ (u : ℕ) (none-applies : None (Row s l (withdraw u))) (goes_on : refusal (table_permits t) (known_in t) i (withdraw u) ≡ none) where
-    taken-back-alike : (f : Found) → builtEntry s l u ≡ f → Finds (λ e. eqb e.terminal.0 u) (in_use s l) f → Answered t s l i (withdraw u)
+    taken_back_alike : (f : Found) → builtEntry s l u ≡ f → Finds (λ e. eqb e.terminal.0 u) (in_use s l) f → Answered t s l i (withdraw u)
     unfolding step withdraw_step builtEntry
-    taken-back-alike Nobody is finds =
+    taken_back_alike Nobody is finds =
         record {
           reply = Withdrawn 0;
           session = s;
           list = l;
           leaves = does none-applies (rw is);
-          same_reply = rw (goes_on, entry-alike s l i a u, is);
-          still_alike = rw (goes_on, entry-alike s l i a u, is) a;
+          same_reply = rw (goes_on, entry_alike s l i a u, is);
+          still_alike = rw (goes_on, entry_alike s l i a u, is) a;
         }
-    taken-back-alike (At w) is finds =
+    taken_back_alike (At w) is finds =
         let reply = Withdrawn w.place in
         let later = counting s (s.waiting - 1) in
         let left = taken_out s.waiting w.place l in
         let by : Leaves s l (withdraw u) reply later left = does none-applies (rw is) in
         let fits : s.waiting ≤ length l = omega (arith, a.is_sound.record_sound.count_most, a.long_list) in
-        let here = (found-in-use s l fits (λ e. eqb e.terminal.0 u) w finds).0 in
+        let here = (found_in_use s l fits (λ e. eqb e.terminal.0 u) w finds).0 in
         let after : Line = record { history = i.history; running = i.running; waiting = without w.place i.waiting } in
         let entries : map (entry_heard t) (take (s.waiting - 1) left) ≡ after.waiting =
-        rw (← a.same_entries) (taken-heard (entry_heard t) s.waiting w.place l here fits) in
+        rw (← a.same_entries) (taken_heard (entry_heard t) s.waiting w.place l here fits) in
         record {
           reply = reply;
           session = later;
           list = left;
           leaves = by;
-          same_reply = rw (goes_on, entry-alike s l i a u, is);
-          still_alike = rw (goes_on, entry-alike s l i a u, is)
-              (alike-after (withdraw u) reply later left after by refl a.grants_permitted a.its_set a.same_runner entries);
+          same_reply = rw (goes_on, entry_alike s l i a u, is);
+          still_alike = rw (goes_on, entry_alike s l i a u, is)
+              (alike_after (withdraw u) reply later left after by refl a.grants_permitted a.its_set a.same_runner entries);
         }
 
-    withdraw-alike : Answered t s l i (withdraw u)
+    withdraw_alike : Answered t s l i (withdraw u)
     unfolding builtEntry
-    withdraw-alike = taken-back-alike (builtEntry s l u) refl (seek_finds _ (in_use s l))
+    withdraw_alike = taken_back_alike (builtEntry s l u) refl (seek_finds _ (in_use s l))
 
   -- a call whose tests came to this
-  verdict-alike : (c : Call) (v : Option ℕ) → refusal (table_permits t) (known_in t) i c ≡ v → Verdict s l i a c v → Answered t s l i c
-  verdict-alike c (some m) e first = refused-alike s l i a c m e first
-  verdict-alike (ask u n) none e (applies, known) = ask-alike u n applies known e
-  verdict-alike (finish u) none e (applies, own) = runner i.running refl own
+  verdict_alike : (c : Call) (v : Option ℕ) → refusal (table_permits t) (known_in t) i c ≡ v → Verdict s l i a c v → Answered t s l i c
+  verdict_alike c (some m) e first = refused_alike s l i a c m e first
+  verdict_alike (ask u n) none e (applies, known) = ask_alike u n applies known e
+  verdict_alike (finish u) none e (applies, own) = runner i.running refl own
     where
       runner : (r : Option ℕ) → i.running ≡ r → runs r u ≡ true → Answered t s l i (finish u)
       runner none is own = absurd (false≢true own)
-      runner (some v) is own = finish-alike u v applies is e
-  verdict-alike (withdraw u) none e (applies, _) = withdraw-alike u applies e
+      runner (some v) is own = finish_alike u v applies is e
+  verdict_alike (withdraw u) none e (applies, _) = withdraw_alike u applies e
 
-  own-table-alike : (c : Call) → Answered t s l i c
-  own-table-alike c = verdict-alike c _ refl (tested-alike s l i a c)
+  own_table_alike : (c : Call) → Answered t s l i c
+  own_table_alike c = verdict_alike c _ refl (tested_alike s l i a c)
 
 -- each call of lines that are alike is answered alike
 pub call_alike : (t : Table) (s : Session) (l : List Entry) (i : Line) → Alike t s l i → (c : Call) → Answered t s l i c
 call_alike t s l i a =
-    subst (λ (x : Table). Alike x s l i → (c : Call) → Answered x s l i c) a.its_table (λ b c. own-table-alike s l i b c) a
+    subst (λ (x : Table). Alike x s l i → (c : Call) → Answered x s l i c) a.its_table (λ b c. own_table_alike s l i b c) a

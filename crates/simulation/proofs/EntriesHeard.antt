@@ -18,56 +18,56 @@ use Rattle.standing.specs.Lists.{blank_entry, place_of, put_at, moved_up, taken_
 -- entries are read by f
 module _ (f : Entry → Named) where
   -- what was found, read so
-  abbrev pub foundHeard : Found → Finding
-  foundHeard Nobody = nobody
-  foundHeard (At w) = at w.place (f w.entry)
+  abbrev pub found_heard : Found → Finding
+  found_heard Nobody = nobody
+  found_heard (At w) = at w.place (f w.entry)
 
-  further-heard : (b : Bool) (e : Entry) (r : Found)
-      → cond b (at 0 (f e)) (further (foundHeard r)) ≡ foundHeard (cond b (At (record { place = 0; entry = e })) (behind r))
-  further-heard true e r = refl
-  further-heard false e Nobody = refl
-  further-heard false e (At w) = refl
+  further_heard : (b : Bool) (e : Entry) (r : Found)
+      → cond b (at 0 (f e)) (further (found_heard r)) ≡ found_heard (cond b (At (record { place = 0; entry = e })) (behind r))
+  further_heard true e r = refl
+  further_heard false e Nobody = refl
+  further_heard false e (At w) = refl
 
-  pub seek-heard : (test : Entry → Bool) (told : Named → Bool) (es : List Entry)
+  pub seek_heard : (test : Entry → Bool) (told : Named → Bool) (es : List Entry)
       → ((i : ℕ) → i < length es → told (f (get_or es i blank_entry)) ≡ test (get_or es i blank_entry))
-      → look told (map f es) ≡ foundHeard (seek test es)
+      → look told (map f es) ≡ found_heard (seek test es)
   unfolding look seek
-  seek-heard test told [] same = refl
-  seek-heard test told (e ∷ es) same =
-      rw (same 0 (omega arith), seek-heard test told es (λ i l. same (suc i) (omega (arith, l))))
-      (further-heard (test e) e (seek test es))
+  seek_heard test told [] same = refl
+  seek_heard test told (e ∷ es) same =
+      rw (same 0 (omega arith), seek_heard test told es (λ i l. same (suc i) (omega (arith, l))))
+      (further_heard (test e) e (seek test es))
 
   -- a new entry gets the same place, and stands there in both
-  pub place-heard : (es : List Entry) (e : Entry) → placed (map f es) (f e) ≡ place_of es e
-  place-heard es e = rw length-map
+  pub place_heard : (es : List Entry) (e : Entry) → placed (map f es) (f e) ≡ place_of es e
+  place_heard es e = rw length-map
 
-  put-last-heard : (n : ℕ) (l : List Entry) (e : Entry) → n < length l
+  put_last_heard : (n : ℕ) (l : List Entry) (e : Entry) → n < length l
       → map f (take (suc n) (put_at n e l)) ≡ put (length (map f (take n l))) (f e) (map f (take n l))
   unfolding put
-  put-last-heard n [] e h = absurd (not-suc-le-zero h)
-  put-last-heard zero (d ∷ l) e h = refl
-  put-last-heard (suc n) (d ∷ l) e h = rw (put-last-heard n l e (le_of_suc-le-suc h))
+  put_last_heard n [] e h = absurd (not-suc-le-zero h)
+  put_last_heard zero (d ∷ l) e h = refl
+  put_last_heard (suc n) (d ∷ l) e h = rw (put_last_heard n l e (le_of_suc-le-suc h))
 
-  pub put-heard : (n : ℕ) (l : List Entry) (e : Entry) → n < length l
+  pub put_heard : (n : ℕ) (l : List Entry) (e : Entry) → n < length l
       → map f (take (suc n) (put_at (place_of (take n l) e) e l)) ≡ put (placed (map f (take n l)) (f e)) (f e) (map f (take n l))
-  put-heard n l e h = rw (length-take-le n l (omega arith)) (put-last-heard n l e h)
+  put_heard n l e h = rw (length-take-le n l (omega arith)) (put_last_heard n l e h)
 
-  moved-heard : (n : ℕ) (l : List Entry) → n ≤ length l → map f (take n (moved_up n l)) ≡ map f (take n l)
+  moved_heard : (n : ℕ) (l : List Entry) → n ≤ length l → map f (take n (moved_up n l)) ≡ map f (take n l)
   unfolding moved_up
-  moved-heard zero l h = refl
-  moved-heard (suc n) [] h = absurd (not-suc-le-zero h)
-  moved-heard (suc n) (d ∷ l) h = rw (moved-heard n l (le_of_suc-le-suc h))
+  moved_heard zero l h = refl
+  moved_heard (suc n) [] h = absurd (not-suc-le-zero h)
+  moved_heard (suc n) (d ∷ l) h = rw (moved_heard n l (le_of_suc-le-suc h))
 
-  pub taken-heard : (n p : ℕ) (l : List Entry) → p < n → n ≤ length l
+  pub taken_heard : (n p : ℕ) (l : List Entry) → p < n → n ≤ length l
       → map f (take (n - 1) (taken_out n p l)) ≡ without p (map f (take n l))
   unfolding taken_out without
-  taken-heard zero p l here fits = absurd (not-suc-le-zero here)
-  taken-heard (suc n) p [] here fits = absurd (not-suc-le-zero fits)
-  taken-heard (suc n) zero (e ∷ l) here fits =
+  taken_heard zero p l here fits = absurd (not-suc-le-zero here)
+  taken_heard (suc n) p [] here fits = absurd (not-suc-le-zero fits)
+  taken_heard (suc n) zero (e ∷ l) here fits =
       let fewer : suc n - 1 ≡ n = omega arith in
-      rw fewer (moved-heard n l (le_of_suc-le-suc fits))
-  taken-heard (suc zero) (suc p) (e ∷ l) here fits = absurd (omega arith)
-  taken-heard (suc (suc n)) (suc p) (e ∷ l) here fits =
+      rw fewer (moved_heard n l (le_of_suc-le-suc fits))
+  taken_heard (suc zero) (suc p) (e ∷ l) here fits = absurd (omega arith)
+  taken_heard (suc (suc n)) (suc p) (e ∷ l) here fits =
       let fewer : suc (suc n) - 1 ≡ suc n = omega arith in
       let left : suc n - 1 ≡ n = omega arith in
-      rw fewer (ap (λ (es : List Named). f e ∷ es) (rw left at (taken-heard (suc n) p l (le_of_suc-le-suc here) (le_of_suc-le-suc fits))))
+      rw fewer (ap (λ (es : List Named). f e ∷ es) (rw left at (taken_heard (suc n) p l (le_of_suc-le-suc here) (le_of_suc-le-suc fits))))

@@ -15,26 +15,26 @@ use Rattle.steps.proofs.CallsDetermined.{ask_determined, finish_determined, with
 use Rattle.simulation.specs.Runs.{ReplyTo, Leaves, Made}
 
 module _ (s s' : Session) (l l' : List Entry) where
-  pub leaves-sound : (c : Call) (r : ReplyTo c) → Leaves s l c r s' l' → Sound s l → Sound s' l'
-  leaves-sound (ask u n) r by sound = ask_keeps s s' l l' _ n r by sound
-  leaves-sound (finish u) r by sound = finish_keeps s s' l l' _ r by sound
-  leaves-sound (withdraw u) r by sound = withdraw_keeps s s' l l' _ r by sound
+  pub leaves_sound : (c : Call) (r : ReplyTo c) → Leaves s l c r s' l' → Sound s l → Sound s' l'
+  leaves_sound (ask u n) r by sound = ask_keeps s s' l l' _ n r by sound
+  leaves_sound (finish u) r by sound = finish_keeps s s' l l' _ r by sound
+  leaves_sound (withdraw u) r by sound = withdraw_keeps s s' l l' _ r by sound
 
-  pub leaves-rest : (c : Call) (r : ReplyTo c) → Leaves s l c r s' l' → Untouched l l'
-  leaves-rest (ask u n) r by = ask_leaves_the_rest s s' l l' _ n r by
-  leaves-rest (finish u) r by = finish_leaves_the_rest s s' l l' _ r by
-  leaves-rest (withdraw u) r by = withdraw_leaves_the_rest s s' l l' _ r by
+  pub leaves_rest : (c : Call) (r : ReplyTo c) → Leaves s l c r s' l' → Untouched l l'
+  leaves_rest (ask u n) r by = ask_leaves_the_rest s s' l l' _ n r by
+  leaves_rest (finish u) r by = finish_leaves_the_rest s s' l l' _ r by
+  leaves_rest (withdraw u) r by = withdraw_leaves_the_rest s s' l l' _ r by
 
-  pub leaves-blank : (c : Call) (r : ReplyTo c) → Leaves s l c r s' l' → BlankBehind s l → BlankBehind s' l'
-  leaves-blank (ask u n) r by blank = ask_keeps_blank s s' l l' _ n r by blank
-  leaves-blank (finish u) r by blank = finish_keeps_blank s s' l l' _ r by blank
-  leaves-blank (withdraw u) r by blank = withdraw_keeps_blank s s' l l' _ r by blank
+  pub leaves_blank : (c : Call) (r : ReplyTo c) → Leaves s l c r s' l' → BlankBehind s l → BlankBehind s' l'
+  leaves_blank (ask u n) r by blank = ask_keeps_blank s s' l l' _ n r by blank
+  leaves_blank (finish u) r by blank = finish_keeps_blank s s' l l' _ r by blank
+  leaves_blank (withdraw u) r by blank = withdraw_keeps_blank s s' l l' _ r by blank
 
 module _ (s s₁ s₂ : Session) (l l₁ l₂ : List Entry) where
-  pub leaves-one : (c : Call) (r q : ReplyTo c) → Leaves s l c r s₁ l₁ → Leaves s l c q s₂ l₂ → (r ≡ q) × (s₁ ≡ s₂) × (l₁ ≡ l₂)
-  leaves-one (ask u n) r q by by' = ask_determined s s₁ s₂ l l₁ l₂ _ n r q by by'
-  leaves-one (finish u) r q by by' = finish_determined s s₁ s₂ l l₁ l₂ _ r q by by'
-  leaves-one (withdraw u) r q by by' = withdraw_determined s s₁ s₂ l l₁ l₂ _ r q by by'
+  pub leaves_one : (c : Call) (r q : ReplyTo c) → Leaves s l c r s₁ l₁ → Leaves s l c q s₂ l₂ → (r ≡ q) × (s₁ ≡ s₂) × (l₁ ≡ l₂)
+  leaves_one (ask u n) r q by by' = ask_determined s s₁ s₂ l l₁ l₂ _ n r q by by'
+  leaves_one (finish u) r q by by' = finish_determined s s₁ s₂ l l₁ l₂ _ r q by by'
+  leaves_one (withdraw u) r q by by' = withdraw_determined s s₁ s₂ l l₁ l₂ _ r q by by'
 
   -- the same of calls that are equal
   pub made_one : (m d : Made) → m.call ≡ d.call → Leaves s l m.call m.reply s₁ l₁ → Leaves s l d.call d.reply s₂ l₂
@@ -42,6 +42,6 @@ module _ (s s₁ s₂ : Session) (l l₁ l₂ : List Entry) where
   made_one m d e by by' =
       subst (λ (c : Call). (q : ReplyTo c) → Leaves s l c q s₂ l₂ → (m ≡ record { call = c; reply = q }) × (s₁ ≡ s₂) × (l₁ ≡ l₂)) e
       (λ q by''.
-      let (same, records, lists) = leaves-one m.call m.reply q by by'' in
+      let (same, records, lists) = leaves_one m.call m.reply q by by'' in
       (ap (λ (r : ReplyTo m.call). record { call = m.call; reply = r }) same, records, lists))
       d.reply by'

@@ -23,7 +23,7 @@ use Rattle.simulation.specs.Likeness.{Alike}
 use Rattle.simulation.specs.Promises.{RunGoesOn, CallsCanBeMade, RunsDetermined}
 use Rattle.simulation.proofs.Leaving.{made_one}
 use Rattle.simulation.proofs.CallsAlike.{call_alike}
-use Rattle.simulation.proofs.RunsAlike.{opened-so, opening-alike}
+use Rattle.simulation.proofs.RunsAlike.{opened_so, opening_alike}
 
 pub run_goes_on : RunGoesOn
 unfolding Run
@@ -68,7 +68,7 @@ pub calls_can_be_made : CallsCanBeMade
 calls_can_be_made t sound s l long cs =
     let opens = opens_always t s l sound long in
     let first = built.opening t in
-    let all = makes_any t first (blanked 64 l) opening (opening-alike t s first l (blanked 64 l) opens) cs in
+    let all = makes_any t first (blanked 64 l) opening (opening_alike t s first l (blanked 64 l) opens) cs in
     record {
       made = all.made;
       session = all.session;
@@ -95,8 +95,8 @@ runs_one s s₁ s₂ l l₁ l₂ (m ∷ ms) (d ∷ ds) (s₃, l₃, by, run₁) 
 
 pub runs_determined : RunsDetermined
 runs_determined t ms₁ ms₂ s₁ s₂ l₁ l₂ run₁ run₂ lists calls =
-    let (is, il) = opened-so t run₁.lent run₁.opened run₁.list run₁.blanked run₁.opens in
-    let (js, jl) = opened-so t run₂.lent run₂.opened run₂.list run₂.blanked run₂.opens in
+    let (is, il) = opened_so t run₁.lent run₁.opened run₁.list run₁.blanked run₁.opens in
+    let (js, jl) = opened_so t run₂.lent run₂.opened run₂.list run₂.blanked run₂.opens in
     let same-record : run₁.opened ≡ run₂.opened = is ∙ sym js in
     let same-list : run₁.blanked ≡ run₂.blanked = il ∙ rw lists (sym jl) in
     runs_one run₂.opened s₁ s₂ run₂.blanked l₁ l₂ ms₁ ms₂ (rw (same-record, same-list) at run₁.runs) run₂.runs calls

@@ -24,7 +24,7 @@ use Rattle.meaning.proofs.Granting.{permitted_can_be_granted}
 use Rattle.grammar.specs.Refusals.{Accepted}
 use Rattle.table.specs.Cells.{names_of}
 use Rattle.table.specs.declared.cells.Table.{Table}
-use Rattle.table.proofs.TableCells.{names-of-table}
+use Rattle.table.proofs.TableCells.{names_of_table}
 use Rattle.compiler.specs.declared.replies.Compiled.{Compiled}
 use Rattle.compiler.specs.Compiling.{TableOfText}
 use Rattle.compiler.specs.Computed.{compiled}
@@ -40,19 +40,19 @@ module _ (text : List ℕ) (e : Expr) (is-accepted : Accepted text e) where
   abbrev t : Table
   t = (compiled text).table
 
-  abbrev of-text : TableOfText e t
-  of-text = (compiled_compiles text).its_table e is-accepted
+  abbrev of_text : TableOfText e t
+  of_text = (compiled_compiles text).its_table e is-accepted
 
-  names-are : names_of t ≡ distinct (names e)
-  names-are = ap names_of of-text.by_the_rules ∙ names-of-table e (text_limited text e is-accepted)
+  names_are : names_of t ≡ distinct (names e)
+  names_are = ap names_of of_text.by_the_rules ∙ names_of_table e (text_limited text e is-accepted)
 
   -- the operations of its table are the names of the text
-  knows-its-names : (k : Name) → (known_in t k ≡ true) ↔ Memᴰ k (map key (names e))
-  knows-its-names k = rw (names-are, holds_distinct) (held_reads (names e) k)
+  knows_its_names : (k : Name) → (known_in t k ≡ true) ↔ Memᴰ k (map key (names e))
+  knows_its_names k = rw (names_are, holds_distinct) (held_reads (names e) k)
 
   -- there is one such table
-  seen-of-table : (xs : List Exchange) (es : List Named) → Seen t xs es ↔ TextSeen text xs es
-  seen-of-table xs es = (
+  seen_of_table : (xs : List Exchange) (es : List Named) → Seen t xs es ↔ TextSeen text xs es
+  seen_of_table xs es = (
     λ seen. record { compiled = compiled text; compiles = compiled_compiles text; seen = seen },
     λ seen. subst (λ (r : Compiled). Seen r.table xs es) (compiles_one text seen.compiled seen.compiles) seen.seen,
   )
@@ -60,8 +60,8 @@ module _ (text : List ℕ) (e : Expr) (is-accepted : Accepted text e) where
 pub texts_keep_demand_3 : TextsKeepDemand3
 texts_keep_demand_3 text e is-accepted =
     demand_3_carries _ (TextSeen text) _ (Begins e) _ (λ (k : Name). Memᴰ k (map key (names e)))
-    (seen-of-table text e is-accepted) (of-text text e is-accepted).permits_exactly (knows-its-names text e is-accepted)
-    (tables_keep_demand_3 (t text e is-accepted) (of-text text e is-accepted).is_sound)
+    (seen_of_table text e is-accepted) (of_text text e is-accepted).permits_exactly (knows_its_names text e is-accepted)
+    (tables_keep_demand_3 (t text e is-accepted) (of_text text e is-accepted).is_sound)
 
 -- lines over texts with the same histories keep the same demand, and that leaves one line
 pub same_histories_told_alike : SameHistoriesToldAlike

@@ -4,7 +4,7 @@ use Rattle.std.proofs.Math.Option.{Option, some, none}
 use Rattle.std.specs.Int.Bits.{bit_and}
 use Rattle.meaning.specs.Names.{Name}
 use Rattle.meaning.specs.Operations.{holds}
-use Rattle.meaning.specs.Following.{setAfter}
+use Rattle.meaning.specs.Following.{set_after}
 use Rattle.meaning.specs.Line.{Line}
 use Rattle.table.specs.Cells.{names_of}
 use Rattle.table.specs.Following.{permission_of, table_permits}
@@ -28,7 +28,7 @@ runner_in (Running u) = some u.0
 
 -- the set of table t after the history h, all of it finished
 abbrev pub set_at : Table → List Name → ℕ
-set_at t h = setAfter t.rows (permission_of t) t.start h
+set_at t h = set_after t.rows (permission_of t) t.start h
 
 -- s is the set after the grants h: of a free line all are finished; of one that runs the last is not, and the set is what it shared
 abbrev pub SetStands : Table → Option ℕ → List Name → ℕ → Type 0

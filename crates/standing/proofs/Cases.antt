@@ -6,5 +6,5 @@ module _ {a r : Bool} (x : Bool) where
   pub first_passes : a ≡ true → r ≡ x → r ≡ a && x
   first_passes e p = p ∙ ap (λ (b : Bool). b && x) (sym e)
 
-  pub first-fails : a ≡ false → r ≡ false → r ≡ a && x
-  first-fails e p = p ∙ ap (λ (b : Bool). b && x) (sym e)
+  pub first_fails : a ≡ false → r ≡ false → r ≡ a && x
+  first_fails e p = p ∙ ap (λ (b : Bool). b && x) (sym e)

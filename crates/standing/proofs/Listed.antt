@@ -108,21 +108,21 @@ module _ (names barred taken : ℕ) (e : Entry) (es : List Entry) where
         unbarred = a.unbarred 0 (omega arith);
       }
 
-  others-of : AllFit names barred taken (e ∷ es) → AllFit names barred taken' es
-  others-of a =
+  others_of : AllFit names barred taken (e ∷ es) → AllFit names barred taken' es
+  others_of a =
       record {
         below = λ i l. a.below (suc i) (omega (arith, l));
         new = λ i l h.
             ⊎_elim (a.new (suc i) (omega (arith, l)))
-            (λ bit. absurd (zero-not-suc (a.differ 0 (suc i) (omega arith) (omega (arith, l)) (sym ((in_bit _ _).0 bit).1))))
+            (λ bit. absurd (zero_not_suc (a.differ 0 (suc i) (omega arith) (omega (arith, l)) (sym ((in_bit _ _).0 bit).1))))
             ((in_union (terminal_in es i) taken (bit_of e.terminal.0)).0 h);
         differ = λ i j l k q. suc_inj (a.differ (suc i) (suc j) (omega (arith, l)) (omega (arith, k)) q);
         exist = λ i l. a.exist (suc i) (omega (arith, l));
         unbarred = λ i l. a.unbarred (suc i) (omega (arith, l));
       }
     where
-      zero-not-suc : {i : ℕ} → ¬ (0 ≡ suc i)
-      zero-not-suc q = absurd (omega (arith, q))
+      zero_not_suc : {i : ℕ} → ¬ (0 ≡ suc i)
+      zero_not_suc q = absurd (omega (arith, q))
 
 pub all_fit_says : (names barred taken : ℕ) (es : List Entry) → (all_fit names barred taken es ≡ true) ↔ AllFit names barred taken es
 all_fit_says names barred taken [] = (
@@ -141,5 +141,5 @@ all_fit_says names barred taken (e ∷ es) =
     let both = and-eq-true_iff (fits_among names barred taken e) (all_fit names barred (bit_or taken (bit_of e.terminal.0)) es) in
     let one = fits_says names barred taken e in (
       λ h. together names barred taken e es (one.0 (both.0 h).0) (rest.0 (both.0 h).1),
-      λ a. both.1 (one.1 (first_of names barred taken e es a), rest.1 (others-of names barred taken e es a)),
+      λ a. both.1 (one.1 (first_of names barred taken e es a), rest.1 (others_of names barred taken e es a)),
     )

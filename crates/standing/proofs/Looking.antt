@@ -66,15 +66,15 @@ onward_seeks test p [] = refl
 onward_seeks test p (e ∷ es) = onward_here test p e es (test e) (seek test es) (onward_seeks test (suc p) es)
 
 module _ (s : Search) (es : List Entry) where
-  pub looked-own : s.own ≡ Nobody → (looked 0 s es).own ≡ seek (λ e. eqb e.terminal.0 s.terminal.0) es
-  looked-own none =
+  pub looked_own : s.own ≡ Nobody → (looked 0 s es).own ≡ seek (λ e. eqb e.terminal.0 s.terminal.0) es
+  looked_own none =
       own_onward 0 s es
       ∙ ap (λ (f : Found). onward (λ e. eqb e.terminal.0 s.terminal.0) 0 f es) none
       ∙ onward_seeks _ 0 es
       ∙ shifted_none _
 
-  pub looked-first : s.first ≡ Nobody → (looked 0 s es).first ≡ seek (λ e. mem e.operation.0 s.wanted) es
-  looked-first none =
+  pub looked_first : s.first ≡ Nobody → (looked 0 s es).first ≡ seek (λ e. mem e.operation.0 s.wanted) es
+  looked_first none =
       first_onward 0 s es
       ∙ ap (λ (f : Found). onward (λ e. mem e.operation.0 s.wanted) 0 f es) none
       ∙ onward_seeks _ 0 es

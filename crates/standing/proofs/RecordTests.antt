@@ -45,24 +45,24 @@ module _ (s : Session) (all : length s.table.operations ≡ 64) (sound : TableSo
   places = omega (arith, length-take s.table.positions s.table.operations, all, sound.positions_most)
 
   -- the operation of each position of the set is one of those that meet it
-  in-met : (p : ℕ) → In p s.set → In (operation_at s.table p) (operations_in os s.set)
-  in-met p i =
+  in_met : (p : ℕ) → In p s.set → In (operation_at s.table p) (operations_in os s.set)
+  in_met p i =
       let there = fit.existing p i in
       let few : operation_at s.table p < 64 = omega (arith, sound.operations_exist p there, sound.names_most) in
       (in_operations os s.set (operation_at s.table p) few).1
       (p, omega (arith, places, there), i, ap (λ (o : Operation). o.0) (get_or-take s.table.positions s.table.operations p _ there))
 
   -- one operation's positions only: one operation meets the set
-  one-operation : (sole_in 64 (operations_in os s.set) ≡ true)
+  one_operation : (sole_in 64 (operations_in os s.set) ≡ true)
       ↔ ((o : ℕ) × ((p : ℕ) → In p s.set → operation_at s.table p ≡ o))
-  one-operation =
+  one_operation =
       let says = sole_says 64 (operations_in os s.set) (operations_below os s.set) in (
-        λ h. let sole = says.0 h in (sole.0, λ p i. sole.2 (operation_at s.table p) (in-met p i)),
+        λ h. let sole = says.0 h in (sole.0, λ p i. sole.2 (operation_at s.table p) (in_met p i)),
         λ h.
             let m = member s.set fit.not_empty in
             says.1 (
               h.0,
-              subst (λ (o : ℕ). In o (operations_in os s.set)) (h.1 m.0 m.1) (in-met m.0 m.1),
+              subst (λ (o : ℕ). In o (operations_in os s.set)) (h.1 m.0 m.1) (in_met m.0 m.1),
               λ q i.
                   let placed = (in_operations os s.set q (in_below q 64 _ (operations_below os s.set) i)).0 i in
                   sym placed.3
@@ -88,7 +88,7 @@ module _ (s : Session) (all : length s.table.operations ≡ 64) (b : Bool) (tabl
       let sound = table-says.0 table.0 in
       let fits = (fit_says s.set s.table.positions).0 table.1 in
       let fit : Fit s.table s.set = record { not_empty = fits.0; existing = fits.1 } in
-      let runs = (state_says s.state _ _ (one-operation s all sound fit)).0 state.1 in
+      let runs = (state_says s.state _ _ (one_operation s all sound fit)).0 state.1 in
       record {
         table_sound = sound;
         set_fits = fit;
@@ -103,9 +103,9 @@ module _ (s : Session) (all : length s.table.operations ≡ 64) (b : Bool) (tabl
       rw (
         table-says.1 r.table_sound,
         (fit_says s.set s.table.positions).1 (fit.not_empty, fit.existing),
-        (state_says s.state _ _ (one-operation s all r.table_sound fit)).1 (r.running_below, r.running_one),
+        (state_says s.state _ _ (one_operation s all r.table_sound fit)).1 (r.running_below, r.running_one),
       )
       (le-leb s.waiting 64 r.count_most)
 
-  pub tests-decide : (r : Bool) → r ≡ record_test s b → (r ≡ true) ↔ RecordSound s
-  tests-decide r e = rw e (tested_sound, sound_tested)
+  pub tests_decide : (r : Bool) → r ≡ record_test s b → (r ≡ true) ↔ RecordSound s
+  tests_decide r e = rw e (tested_sound, sound_tested)

@@ -32,35 +32,35 @@ Finds test es Nobody = FailBefore test es (length es)
 Finds test es (At w) = Earliest test es w
 
 module _ (test : Entry → Bool) (e : Entry) (es : List Entry) where
-  fail-from-first : (n : ℕ) → test e ≡ false → FailBefore test es n → FailBefore test (e ∷ es) (suc n)
-  fail-from-first n q h zero l = q
-  fail-from-first n q h (suc i) l = h i (le_of_suc-le-suc l)
+  fail_from_first : (n : ℕ) → test e ≡ false → FailBefore test es n → FailBefore test (e ∷ es) (suc n)
+  fail_from_first n q h zero l = q
+  fail_from_first n q h (suc i) l = h i (le_of_suc-le-suc l)
 
-  finds-behind : (b : Bool) → test e ≡ b → (f : Found) → Finds test es f
+  finds_behind : (b : Bool) → test e ≡ b → (f : Found) → Finds test es f
       → Finds test (e ∷ es) (cond b (At (record { place = 0; entry = e })) (behind f))
-  finds-behind true q f h =
+  finds_behind true q f h =
       record { there = omega arith; entry_there = refl; passes = q; others = λ i l. absurd (not-suc-le-zero l) }
-  finds-behind false q Nobody h = fail-from-first (length es) q h
-  finds-behind false q (At w) h =
+  finds_behind false q Nobody h = fail_from_first (length es) q h
+  finds_behind false q (At w) h =
       record {
         there = omega (arith, h.there);
         entry_there = h.entry_there;
         passes = h.passes;
-        others = fail-from-first w.place q h.others;
+        others = fail_from_first w.place q h.others;
       }
 
 pub seek_finds : (test : Entry → Bool) (es : List Entry) → Finds test es (seek test es)
 unfolding seek
 seek_finds test [] = λ i l. absurd (not-suc-le-zero l)
-seek_finds test (e ∷ es) = finds-behind test e es (test e) refl (seek test es) (seek_finds test es)
+seek_finds test (e ∷ es) = finds_behind test e es (test e) refl (seek test es) (seek_finds test es)
 
 -- the same in the whole list, of which some are in use
 module _ (s : Session) (l : List Entry) (fits : s.waiting ≤ length l) (test : Entry → Bool) where
-  pub found-in-use : (w : Waiter) → Earliest test (in_use s l) w
+  pub found_in_use : (w : Waiter) → Earliest test (in_use s l) w
       → (w.place < s.waiting) × (get_or l w.place blank_entry ≡ w.entry)
-  found-in-use w first =
+  found_in_use w first =
       let here : w.place < s.waiting = omega (arith, first.there, length-take-le s.waiting l fits) in
       (here, sym (get_or-take s.waiting l w.place blank_entry here) ∙ first.entry_there)
 
-  pub nobody-in-use : Finds test (in_use s l) Nobody → FailBefore test l s.waiting
-  nobody-in-use none i h = rw get_or-take at (none i (omega (arith, length-take-le s.waiting l fits)))
+  pub nobody_in_use : Finds test (in_use s l) Nobody → FailBefore test l s.waiting
+  nobody_in_use none i h = rw get_or-take at (none i (omega (arith, length-take-le s.waiting l fits)))

@@ -41,8 +41,8 @@ module _ (positions : ℕ) (operations : List Operation) (all : length operation
   places : length (take positions operations) ≡ min positions 64
   places = rw (← all) (length-take positions operations)
 
-  pub length-bits : length (bits_of positions operations) ≡ min positions 64
-  length-bits = length-map (take positions operations) (λ o. bit_of o.0) ∙ places
+  pub length_bits : length (bits_of positions operations) ≡ min positions 64
+  length_bits = length-map (take positions operations) (λ o. bit_of o.0) ∙ places
 
   pub bit_at : (p : ℕ) → p < min positions 64 → get_or (bits_of positions operations) p 0 ≡ bit_of (get_or operations p (record { 0 = 0 })).0
   bit_at p h =

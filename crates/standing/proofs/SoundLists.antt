@@ -41,17 +41,17 @@ module _ (s : Session) (l : List Entry) (t : Terminal) (w : ℕ) (long : 64 ≤ 
   abbrev es : List Entry
   es = in_use s l
 
-  pub in_use : length es ≡ s.waiting
-  in_use = omega (arith, length-take s.waiting l, r.count_most, long)
+  pub length_in_use : length es ≡ s.waiting
+  length_in_use = omega (arith, length-take s.waiting l, r.count_most, long)
 
   same : (i : ℕ) → i < s.waiting → get_or es i blank_entry ≡ get_or l i blank_entry
   same i h = get_or-take s.waiting l i blank_entry h
 
-  terminal-same : (i : ℕ) → i < s.waiting → terminal_in es i ≡ terminal_in l i
-  terminal-same i h = ap (λ (e : Entry). e.terminal.0) (same i h)
+  terminal_same : (i : ℕ) → i < s.waiting → terminal_in es i ≡ terminal_in l i
+  terminal_same i h = ap (λ (e : Entry). e.terminal.0) (same i h)
 
-  operation-same : (i : ℕ) → i < s.waiting → operation_in es i ≡ operation_in l i
-  operation-same i h = ap (λ (e : Entry). e.operation.0) (same i h)
+  operation_same : (i : ℕ) → i < s.waiting → operation_in es i ≡ operation_in l i
+  operation_same i h = ap (λ (e : Entry). e.operation.0) (same i h)
 
   -- an operation that exists is below 64
   few : (o : ℕ) → o < s.table.names → o < 64
@@ -60,48 +60,48 @@ module _ (s : Session) (l : List Entry) (t : Terminal) (w : ℕ) (long : 64 ≤ 
   abbrev Fit : Type 0
   Fit = AllFit s.table.names (barred_in s.state (operations_by s s.set)) (taken_in s.state) es
 
-  fit-sound : Fit → Sound s l
-  fit-sound f =
-      let there : (i : ℕ) → i < s.waiting → i < length es = λ i h. omega (arith, h, in_use) in
+  fit_sound : Fit → Sound s l
+  fit_sound f =
+      let there : (i : ℕ) → i < s.waiting → i < length es = λ i h. omega (arith, h, length_in_use) in
       let exists : (i : ℕ) → i < s.waiting → operation_in l i < s.table.names =
-      λ i h. subst (λ (o : ℕ). o < s.table.names) (operation-same i h) (f.exist i (there i h)) in
+      λ i h. subst (λ (o : ℕ). o < s.table.names) (operation_same i h) (f.exist i (there i h)) in
       record {
         record_sound = r;
-        terminals_below = λ i h. subst (λ (n : ℕ). n < 64) (terminal-same i h) (f.below i (there i h));
+        terminals_below = λ i h. subst (λ (n : ℕ). n < 64) (terminal_same i h) (f.below i (there i h));
         terminals_differ = λ i j h k q.
-            f.differ i j (there i h) (there j k) (terminal-same i h ∙ q ∙ sym (terminal-same j k));
+            f.differ i j (there i h) (there j k) (terminal_same i h ∙ q ∙ sym (terminal_same j k));
         none_runs = λ u e i h.
             (new_says s.state r.running_below (terminal_in l i)).0
-            (subst (λ (n : ℕ). ¬ In n (taken_in s.state)) (terminal-same i h) (f.new i (there i h))) u e;
+            (subst (λ (n : ℕ). ¬ In n (taken_in s.state)) (terminal_same i h) (f.new i (there i h))) u e;
         operations_exist = exists;
         nobody_permitted = λ e i h.
             (unbarred_says s.state (operation_in l i) _ _ (operation_meets s s.set (operation_in l i) (few _ (exists i h)))).0
-            (subst (λ (o : ℕ). mem o (barred_in s.state (operations_by s s.set)) ≡ false) (operation-same i h)
+            (subst (λ (o : ℕ). mem o (barred_in s.state (operations_by s s.set)) ≡ false) (operation_same i h)
             (f.unbarred i (there i h)))
             e;
       }
 
-  sound-fit : Sound s l → Fit
-  sound-fit d =
-      let here : (i : ℕ) → i < length es → i < s.waiting = λ i h. omega (arith, h, in_use) in
+  sound_fit : Sound s l → Fit
+  sound_fit d =
+      let here : (i : ℕ) → i < length es → i < s.waiting = λ i h. omega (arith, h, length_in_use) in
       record {
-        below = λ i h. subst (λ (n : ℕ). n < 64) (sym (terminal-same i (here i h))) (d.terminals_below i (here i h));
+        below = λ i h. subst (λ (n : ℕ). n < 64) (sym (terminal_same i (here i h))) (d.terminals_below i (here i h));
         new = λ i h.
-            subst (λ (n : ℕ). ¬ In n (taken_in s.state)) (sym (terminal-same i (here i h)))
+            subst (λ (n : ℕ). ¬ In n (taken_in s.state)) (sym (terminal_same i (here i h)))
             ((new_says s.state r.running_below (terminal_in l i)).1 (λ u e. d.none_runs u e i (here i h)));
         differ = λ i j h k q.
-            d.terminals_differ i j (here i h) (here j k) (sym (terminal-same i (here i h)) ∙ q ∙ terminal-same j (here j k));
-        exist = λ i h. subst (λ (o : ℕ). o < s.table.names) (sym (operation-same i (here i h))) (d.operations_exist i (here i h));
+            d.terminals_differ i j (here i h) (here j k) (sym (terminal_same i (here i h)) ∙ q ∙ terminal_same j (here j k));
+        exist = λ i h. subst (λ (o : ℕ). o < s.table.names) (sym (operation_same i (here i h))) (d.operations_exist i (here i h));
         unbarred = λ i h.
-            subst (λ (o : ℕ). mem o (barred_in s.state (operations_by s s.set)) ≡ false) (sym (operation-same i (here i h)))
+            subst (λ (o : ℕ). mem o (barred_in s.state (operations_by s s.set)) ≡ false) (sym (operation_same i (here i h)))
             ((unbarred_says s.state (operation_in l i) _ _
             (operation_meets s s.set (operation_in l i) (few _ (d.operations_exist i (here i h))))).1
             (λ e. d.nobody_permitted e i (here i h)));
       }
 
   -- what is found of the entries says whether record and list are sound
-  pub looking-decides : ((looked 0 (searching s t w) es).fits ≡ true) ↔ Sound s l
+  pub looking_decides : ((looked 0 (searching s t w) es).fits ≡ true) ↔ Sound s l
   unfolding searching
-  looking-decides =
+  looking_decides =
       let says = all_fit_says s.table.names (barred_in s.state (operations_by s s.set)) (taken_in s.state) es in
-      rw (looked_fits 0 (searching s t w) es) (λ h. fit-sound (says.0 h), λ d. says.1 (sound-fit d))
+      rw (looked_fits 0 (searching s t w) es) (λ h. fit_sound (says.0 h), λ d. says.1 (sound_fit d))

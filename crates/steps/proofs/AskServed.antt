@@ -33,9 +33,9 @@ use Rattle.steps.specs.Calling.Serves.{refuses, does}
 use Rattle.steps.specs.Promises.{AskCoreIsStep}
 use Rattle.steps.specs.Values.{ask_outcome, one_more, runs_in, is_found, not_asked, ask_core, ask_known, ask_named, ask_value, AskedBy}
 use Rattle.steps.proofs.Pigeonhole.{room_for_one}
-use Rattle.steps.proofs.RowNumbers.{rows_left, ask-rows-left}
-use Rattle.standing.proofs.SoundLists.{in_use}
-use Rattle.steps.proofs.Verdicts.{runs_says, found, waits-says, Passed, Common, common}
+use Rattle.steps.proofs.RowNumbers.{rows_left, ask_rows_left}
+use Rattle.standing.proofs.SoundLists.{length_in_use}
+use Rattle.steps.proofs.Verdicts.{runs_says, found, waits_says, Passed, Common, common}
 use Rattle.steps.proofs.Verdicts.Common.{stops, goes}
 
 not_asked_told : (s : Session) (l : List Entry) (m : ℕ) → ask_outcome l (not_asked s (length l) m) ≡ refusing s l m
@@ -53,7 +53,7 @@ module _ (s : Session) (l : List Entry) (e : Entry) (count : length (in_use s l)
   abbrev delays : Asked
   delays = record { reply = Delayed s.waiting; session = counting s (one_more s.waiting); place = s.waiting; entry = e }
 
-  by-test : (b : Bool) → ask_outcome l (cond b grants delays)
+  by_test : (b : Bool) → ask_outcome l (cond b grants delays)
       ≡ cond b
       (record { answer = granted; session = granting s e s.waiting; list = l })
       (record {
@@ -61,16 +61,16 @@ module _ (s : Session) (l : List Entry) (e : Entry) (count : length (in_use s l)
         session = counting s (suc s.waiting);
         list = set l (length (in_use s l)) e;
       })
-  by-test true = rw (set_out l (length l) e (le_refl (length l)))
-  by-test false = rw (count, one_more s.waiting room)
+  by_test true = rw (set_out l (length l) e (le_refl (length l)))
+  by_test false = rw (count, one_more s.waiting room)
 
-  ask-core : ask_outcome l (ask_core s (length l) e) ≡ ask_step s l e
+  ask_core_told : ask_outcome l (ask_core s (length l) e) ≡ ask_step s l e
   unfolding ask_core ask_step
-  ask-core = by-test (is_free s.state && meets_set s e.operation.0)
+  ask_core_told = by_test (is_free s.state && meets_set s e.operation.0)
 
 pub ask_core_is_step : AskCoreIsStep
 ask_core_is_step s l e long d below absent =
-    ask-core s l e (in_use s l e.terminal 0 long d.record_sound) (room_for_one s l e.terminal.0 d below absent)
+    ask_core_told s l e (length_in_use s l e.terminal 0 long d.record_sound) (room_for_one s l e.terminal.0 d below absent)
 
 module _ (s : Session) (l : List Entry) (t : Terminal) (n : Name) (sound : Bool) (says : (sound ≡ true) ↔ RecordSound s) where
   abbrev f : Search
@@ -89,8 +89,8 @@ module _ (s : Session) (l : List Entry) (t : Terminal) (n : Name) (sound : Bool)
   abbrev Good : Asked → Type 0
   Good v = Serves rows s l (ask_step s l e) (ask_outcome l v)
 
-  refused-by : (m : ℕ) → First rows m → Good (not_asked s (length l) m)
-  refused-by m first = refuses m first (not_asked_told s l m)
+  refused_by : (m : ℕ) → First rows m → Good (not_asked s (length l) m)
+  refused_by m first = refuses m first (not_asked_told s l m)
 
   -- past the tests of every call
   module _ (p : Passed s l t 0) where
@@ -99,55 +99,55 @@ module _ (s : Session) (l : List Entry) (t : Terminal) (n : Name) (sound : Bool)
 
     abbrev left : {k : ℕ} → rows k
         → (known ≡ true → 12 ≤ k) × (known ≡ true → ¬ Runs s t.0 → 13 ≤ k) × (known ≡ true → ¬ Runs s t.0 → ¬ Waits s l t.0 → ⊥)
-    left row = ask-rows-left s l t.0 n row (last row)
+    left row = ask_rows_left s l t.0 n row (last row)
 
     -- 13, or the step
-    past-running : known ≡ true → ¬ Runs s t.0 → (b : Bool) → is_found f.own ≡ b
+    past_running : known ≡ true → ¬ Runs s t.0 → (b : Bool) → is_found f.own ≡ b
         → Good (cond b (not_asked s (length l) 13) (ask_core s (length l) e))
-    past-running there idle true waits =
-        refused-by 13
+    past_running there idle true waits =
+        refused_by 13
         (record {
-          applies = ask_by_a_waiting t.0 n refl ((waits-says s l t 0 p.long p.is_sound.record_sound).0 waits);
+          applies = ask_by_a_waiting t.0 n refl ((waits_says s l t 0 p.long p.is_sound.record_sound).0 waits);
           none_before = λ k before row. absurd (omega (arith, before, (left row).1 there idle));
         })
-    past-running there idle false absent =
+    past_running there idle false absent =
         let nobody : ¬ Waits s l t.0 =
-        λ w. false≢true (sym absent ∙ (waits-says s l t 0 p.long p.is_sound.record_sound).1 w) in
+        λ w. false≢true (sym absent ∙ (waits_says s l t 0 p.long p.is_sound.record_sound).1 w) in
         does (λ m row. (left row).2 there idle nobody)
         (ask_core_is_step s l e p.long p.is_sound p.below nobody)
 
     -- 12, or on
-    past-name : known ≡ true → (b : Bool) → runs_in s.state t ≡ b
+    past_name : known ≡ true → (b : Bool) → runs_in s.state t ≡ b
         → Good (cond b (not_asked s (length l) 12) (cond (is_found f.own) (not_asked s (length l) 13) (ask_core s (length l) e)))
-    past-name there true runs =
-        refused-by 12
+    past_name there true runs =
+        refused_by 12
         (record {
           applies = ask_by_the_running t.0 n refl ((runs_says s.state t).0 runs);
           none_before = λ k before row. absurd (omega (arith, before, (left row).0 there));
         })
-    past-name there false idle =
-        past-running there (λ r. false≢true (sym idle ∙ (runs_says s.state t).1 r)) (is_found f.own) refl
+    past_name there false idle =
+        past_running there (λ r. false≢true (sym idle ∙ (runs_says s.state t).1 r)) (is_found f.own) refl
 
     -- 11, or on
     named : (b : Bool) → known ≡ b
         → Good (ask_named s (length l) f t (cond b (At (record { 0 = number_of (names_of s.table) (key n) })) Nowhere))
     unfolding ask_known
     named false absent =
-        refused-by 11
+        refused_by 11
         (record {
           applies = no_such_operation t.0 n refl absent;
           none_before = λ k before row. absurd (omega (arith, before, last row));
         })
-    named true there = past-name there (runs_in s.state t) refl
+    named true there = past_name there (runs_in s.state t) refl
 
-  pub ask-served : Good (ask_value sound s (length l) f t n)
+  pub ask_served : Good (ask_value sound s (length l) f t n)
   unfolding ask_value found_in
-  ask-served = by_number (common s l t 0 sound says (ask t.0 n) refl)
+  ask_served = by_number (common s l t 0 sound says (ask t.0 n) refl)
     where
       by_number : Common s l t 0 sound says (ask t.0 n) → Good (ask_value sound s (length l) f t n)
-      by_number (stops m some e first) = rw (e, some) (refused-by m first)
+      by_number (stops m some e first) = rw (e, some) (refused_by m first)
       by_number (goes e p) = rw e (named p known refl)
 
 pub ask_asks : (s : Session) (l : List Entry) (t : Terminal) (n : Name) (f : Search) (v : Asked) → f ≡ looked 0 (looking s t) (in_use s l)
     → AskedBy s (length l) f t n v → Asks s l t n v.reply v.session (set l v.place v.entry)
-ask_asks s l t n f v e by = rw (by.is, e) (ask-served s l t n by.sound by.says)
+ask_asks s l t n f v e by = rw (by.is, e) (ask_served s l t n by.sound by.says)

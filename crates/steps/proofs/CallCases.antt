@@ -26,16 +26,16 @@ module _ {R : ℕ → Type 0} {s : Session} {l : List Entry} {step o : Outcome} 
   served (does none e) stays goes = subst P (sym e) (goes none)
 
   -- the answer of an opening that is not refused
-  pub opened-served : Serves R s l step o → o.answer ≡ opened → (None R → P step) → P o
-  opened-served (refuses m first e) is-opened goes =
+  pub opened_served : Serves R s l step o → o.answer ≡ opened → (None R → P step) → P o
+  opened_served (refuses m first e) is-opened goes =
       let is-refused : o.answer ≡ refused m = ap (λ (o : Outcome). o.answer) e in
       let never : ◌≡◌ {A = ℕ} 0 1 = cc in
       absurd (omega arith)
-  opened-served (does none e) is-opened goes = subst P (sym e) (goes none)
+  opened_served (does none e) is-opened goes = subst P (sym e) (goes none)
 
 module _ {s : Session} {l : List Entry} {c : Call} (none : None (Row s l c)) where
   pub long_list : 64 ≤ length l
   long_list = let long : ¬ (length l < 64) = λ short. none 8 (short_list short) in omega arith
 
-  pub by-soundness : (m n : ℕ) → (Sound s l → m ≤ n) → m ≤ n
-  by-soundness m n says = dec→stable (dec_le m n) (λ more. none 9 (unsound (λ sound. more (says sound))))
+  pub by_soundness : (m n : ℕ) → (Sound s l → m ≤ n) → m ≤ n
+  by_soundness m n says = dec→stable (dec_le m n) (λ more. none 9 (unsound (λ sound. more (says sound))))

@@ -12,9 +12,9 @@ use Rattle.standing.specs.Lists.{blank_entry}
 use Rattle.steps.specs.Promises.{BlankBehind, OpenedBlank, AskKeepsBlank, FinishKeepsBlank, WithdrawKeepsBlank}
 use Rattle.standing.specs.Soundness.{entry_in}
 use Rattle.steps.specs.Steps.{Outcome, open_step}
-use Rattle.steps.proofs.CallCases.{opened-served}
+use Rattle.steps.proofs.CallCases.{opened_served}
 use Rattle.standing.proofs.EntryLaws.{blanked_says}
-use Rattle.steps.proofs.ListChanges.{Change, ask-changes, finish-changes, withdraw-changes}
+use Rattle.steps.proofs.ListChanges.{Change, ask_changes, finish_changes, withdraw_changes}
 use Rattle.steps.proofs.ListChanges.Change.{nothing, put_last, took_out}
 
 -- the places behind the first n
@@ -34,14 +34,14 @@ stays_blank {n} (took_out p l' here most out) blank i h few = go (below_or_not i
 pub opened_blank : OpenedBlank
 unfolding open_step
 opened_blank s s' l l' t r opens is-opened =
-    opened-served (λ (o : Outcome). BlankBehind o.session o.list) opens is-opened
+    opened_served (λ (o : Outcome). BlankBehind o.session o.list) opens is-opened
     (λ none i h few. (blanked_says 64 l).first_blank i few)
 
 pub ask_keeps_blank : AskKeepsBlank
-ask_keeps_blank s s' l l' t n r asks = stays_blank (ask-changes s s' l l' t n r asks)
+ask_keeps_blank s s' l l' t n r asks = stays_blank (ask_changes s s' l l' t n r asks)
 
 pub finish_keeps_blank : FinishKeepsBlank
-finish_keeps_blank s s' l l' t r finishes = stays_blank (finish-changes s s' l l' t r finishes)
+finish_keeps_blank s s' l l' t r finishes = stays_blank (finish_changes s s' l l' t r finishes)
 
 pub withdraw_keeps_blank : WithdrawKeepsBlank
-withdraw_keeps_blank s s' l l' t r withdraws = stays_blank (withdraw-changes s s' l l' t r withdraws)
+withdraw_keeps_blank s s' l l' t r withdraws = stays_blank (withdraw_changes s s' l l' t r withdraws)

@@ -18,20 +18,20 @@ use Rattle.steps.specs.Refusals.{OpenRow, None}
 use Rattle.steps.specs.Refusals.Row.{terminal_above_63, no_such_operation, ask_by_the_running, ask_by_a_waiting}
 use Rattle.steps.specs.Refusals.OpenRow.{short_list as short-for-opening, unsound_table}
 use Rattle.steps.specs.Steps.{open_step}
-use Rattle.steps.proofs.TableStable.{table-stable}
-use Rattle.steps.proofs.CallCases.{served, opened-served, long_list}
+use Rattle.steps.proofs.TableStable.{table_stable}
+use Rattle.steps.proofs.CallCases.{served, opened_served, long_list}
 use Rattle.steps.proofs.StepsKeep.{open_step_sound, ask_step_keeps, finish_step_keeps, withdraw_step_keeps}
 
 opens_sound : (t : Table) (l : List Entry) → None (OpenRow t l) → SoundAfter (open_step t l)
 opens_sound t l none =
     let long : ¬ (length l < 64) = λ short. none 8 (short-for-opening short) in
-    open_step_sound t l (table-stable t (λ unsound. none 9 (unsound_table unsound)))
+    open_step_sound t l (table_stable t (λ unsound. none 9 (unsound_table unsound)))
 
 pub open_keeps : OpenKeeps
 open_keeps s s' l l' t r opens sound = served SoundAfter opens (λ m. sound) (opens_sound t l)
 
 pub opened_sound : OpenedSound
-opened_sound s s' l l' t r opens is-opened = opened-served SoundAfter opens is-opened (opens_sound t l)
+opened_sound s s' l l' t r opens is-opened = opened_served SoundAfter opens is-opened (opens_sound t l)
 
 -- the operation of a name that the table holds is one of its operations
 known_below : (t : Table) (k : Name) → ¬ (holds (names_of t) k ≡ false) → number_of (names_of t) k < t.names

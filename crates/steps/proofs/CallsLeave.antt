@@ -13,7 +13,7 @@ use Rattle.steps.specs.Promises.{WithdrawLeavesTheRest}
 use Rattle.steps.specs.Steps.{Outcome, open_step}
 use Rattle.steps.proofs.CallCases.{served}
 use Rattle.standing.proofs.EntryLaws.{blanked_says}
-use Rattle.steps.proofs.ListChanges.{Change, ask-changes, finish-changes, withdraw-changes}
+use Rattle.steps.proofs.ListChanges.{Change, ask_changes, finish_changes, withdraw_changes}
 use Rattle.steps.proofs.ListChanges.Change.{nothing, put_last, took_out}
 
 untouched : {n n' : ℕ} {l l' : List Entry} → Change n l n' l' → Untouched l l'
@@ -28,10 +28,10 @@ open_leaves_the_rest s s' l l' t r opens =
     served (λ (o : Outcome). Untouched l o.list) opens (λ m. (refl, λ i h. refl)) (λ none. (blank.same_length, blank.behind))
 
 pub ask_leaves_the_rest : AskLeavesTheRest
-ask_leaves_the_rest s s' l l' t n r asks = untouched (ask-changes s s' l l' t n r asks)
+ask_leaves_the_rest s s' l l' t n r asks = untouched (ask_changes s s' l l' t n r asks)
 
 pub finish_leaves_the_rest : FinishLeavesTheRest
-finish_leaves_the_rest s s' l l' t r finishes = untouched (finish-changes s s' l l' t r finishes)
+finish_leaves_the_rest s s' l l' t r finishes = untouched (finish_changes s s' l l' t r finishes)
 
 pub withdraw_leaves_the_rest : WithdrawLeavesTheRest
-withdraw_leaves_the_rest s s' l l' t r withdraws = untouched (withdraw-changes s s' l l' t r withdraws)
+withdraw_leaves_the_rest s s' l l' t r withdraws = untouched (withdraw_changes s s' l l' t r withdraws)

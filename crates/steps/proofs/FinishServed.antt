@@ -28,11 +28,11 @@ use Rattle.steps.specs.Calling.Serves.{refuses, does}
 use Rattle.steps.specs.Promises.{FinishCoreIsStep, LookingFindsPicked}
 use Rattle.steps.specs.Values.{finish_outcome, runs_in, not_finished, hand_core, finish_core, finish_value, FinishedBy}
 use Rattle.steps.proofs.AskServed.{one_more}
-use Rattle.standing.proofs.Looking.{looked-first}
+use Rattle.standing.proofs.Looking.{looked_first}
 use Rattle.standing.proofs.Meeting.{operation_meets}
-use Rattle.steps.proofs.RowNumbers.{rows_left, finish-rows-left}
+use Rattle.steps.proofs.RowNumbers.{rows_left, finish_rows_left}
 use Rattle.standing.proofs.Seeking.{Finds, seek_finds}
-use Rattle.standing.proofs.SoundLists.{in_use}
+use Rattle.standing.proofs.SoundLists.{length_in_use}
 use Rattle.steps.proofs.Verdicts.{runs_says, found, Passed, Common, common}
 use Rattle.steps.proofs.Verdicts.Common.{stops, goes}
 
@@ -70,14 +70,14 @@ module _ (s : Session) (l : List Entry) (t : Terminal) where
   f = found s l t w
 
   -- the first entry that the search finds is the one that the step picks
-  first-picked : 64 ≤ length l → Sound s l → f.first ≡ picked (freed s) l
+  first_picked : 64 ≤ length l → Sound s l → f.first ≡ picked (freed s) l
   unfolding searching picked
-  first-picked long d =
+  first_picked long d =
       let r = d.record_sound in
-      looked-first (searching s t w) (in_use s l) refl
+      looked_first (searching s t w) (in_use s l) refl
       ∙ seek_alike (λ e. mem e.operation.0 w) (λ e. meets_set (freed s) e.operation.0) (in_use s l)
       (λ i l'.
-      let there : i < s.waiting = omega (arith, l', in_use s l t w long r) in
+      let there : i < s.waiting = omega (arith, l', length_in_use s l t w long r) in
       let same = get_or-take s.waiting l i blank_entry there in
       operation_meets s (union_of s.table.rows s.set) _
       (omega (arith, ap (λ (e : Entry). e.operation.0) same, d.operations_exist i there, r.table_sound.names_most)))
@@ -90,37 +90,37 @@ module _ (s : Session) (l : List Entry) (t : Terminal) where
     abbrev Good : Handed → Type 0
     Good v = Serves rows s l (finish_step s l) (finish_outcome l v)
 
-    refused-by : (m : ℕ) → First rows m → Good (not_finished s m)
-    refused-by m first = refuses m first (not_finished_told s l m)
+    refused_by : (m : ℕ) → First rows m → Good (not_finished s m)
+    refused_by m first = refuses m first (not_finished_told s l m)
 
     -- past the tests of every call: 14, or the step
     past : (p : Passed s l t w) → (b : Bool) → runs_in s.state t ≡ b → Good (cond b (finish_core s f.first) (not_finished s 14))
     past p false idle =
-        refused-by 14
+        refused_by 14
         (record {
           applies = finish_by_another t.0 refl (λ r. false≢true (sym idle ∙ (runs_says s.state t).1 r));
           none_before = λ k before row.
               absurd
-              (omega (arith, before, (finish-rows-left s l t.0 row ((rows_left s l row).3 p.long p.is_sound p.below)).0));
+              (omega (arith, before, (finish_rows_left s l t.0 row ((rows_left s l row).3 p.long p.is_sound p.below)).0));
         })
     past p true runs =
         does
         (λ m row.
-        (finish-rows-left s l t.0 row ((rows_left s l row).3 p.long p.is_sound p.below)).1 ((runs_says s.state t).0 runs))
-        (ap (λ (first : Found). finish_outcome l (finish_core s first)) (first-picked p.long p.is_sound)
+        (finish_rows_left s l t.0 row ((rows_left s l row).3 p.long p.is_sound p.below)).1 ((runs_says s.state t).0 runs))
+        (ap (λ (first : Found). finish_outcome l (finish_core s first)) (first_picked p.long p.is_sound)
         ∙ finish_core_is_step s l p.long p.is_sound)
 
-    pub finish-served : Good (finish_value sound s (length l) f t)
+    pub finish_served : Good (finish_value sound s (length l) f t)
     unfolding finish_value
-    finish-served = by_number (common s l t w sound says (finish t.0) refl)
+    finish_served = by_number (common s l t w sound says (finish t.0) refl)
       where
         by_number : Common s l t w sound says (finish t.0) → Good (finish_value sound s (length l) f t)
-        by_number (stops m some e first) = rw (e, some) (refused-by m first)
+        by_number (stops m some e first) = rw (e, some) (refused_by m first)
         by_number (goes e p) = rw e (past p (runs_in s.state t) refl)
 
 pub finish_finishes : (s : Session) (l : List Entry) (t : Terminal) (f : Search) (v : Handed) → f ≡ looked 0 (looking_next s t) (in_use s l)
     → FinishedBy s (length l) f t v → Finishes s l t v.reply v.session (taken_out v.used v.place l)
-finish_finishes s l t f v e by = rw (by.is, e) (finish-served s l t by.sound by.says)
+finish_finishes s l t f v e by = rw (by.is, e) (finish_served s l t by.sound by.says)
 
 pub looking_finds_picked : LookingFindsPicked
-looking_finds_picked s l t = first-picked s l t
+looking_finds_picked s l t = first_picked s l t

@@ -28,10 +28,10 @@ use Rattle.steps.specs.Refusals.{Row, None}
 use Rattle.steps.specs.Refusals.Row.{terminal_above_63, ask_by_a_waiting}
 use Rattle.standing.specs.Soundness.{meets_set}
 use Rattle.steps.specs.Steps.{Outcome, is_free, freed, ask_step, picked, hand_on, finish_step, entry_of, take_back, withdraw_step}
-use Rattle.steps.proofs.CallCases.{served, long_list, by-soundness}
+use Rattle.steps.proofs.CallCases.{served, long_list, by_soundness}
 use Rattle.standing.proofs.EntryLaws.{taken_out_says}
 use Rattle.steps.proofs.Pigeonhole.{room_for_one}
-use Rattle.standing.proofs.Seeking.{Earliest, Finds, seek_finds, found-in-use}
+use Rattle.standing.proofs.Seeking.{Earliest, Finds, seek_finds, found_in_use}
 
 -- from n entries in use of a list to another number of another list
 pub data Change (n : ℕ) (l : List Entry) : ℕ → List Entry → Type 0 where
@@ -47,7 +47,7 @@ module _ (s : Session) (l : List Entry) (t : Terminal) (n : Name) (none : None (
   room : s.waiting < 64
   room =
       let few : ¬ (63 < t.0) = λ many. none 10 (terminal_above_63 many) in
-      by-soundness none (suc s.waiting) 64
+      by_soundness none (suc s.waiting) 64
       (λ sound. room_for_one s l t.0 sound (omega arith) (λ waits. none 13 (ask_by_a_waiting t.0 n refl waits)))
 
   decided : (e : Entry) (b : Bool) → is_free s.state && meets_set s e.operation.0 ≡ b → Changes s l (ask_step s l e)
@@ -60,38 +60,38 @@ module _ (s : Session) (l : List Entry) (t : Terminal) (n : Name) (none : None (
 -- a finish or a withdraw: nobody is found, or the one that is found is taken out
 module _ (s : Session) (l : List Entry) {c : Call} (none : None (Row s l c)) where
   most : s.waiting ≤ 64
-  most = by-soundness none s.waiting 64 (λ sound. sound.record_sound.count_most)
+  most = by_soundness none s.waiting 64 (λ sound. sound.record_sound.count_most)
 
-  found-taken-out : (test : Entry → Bool) (w : Waiter) → Earliest test (in_use s l) w
+  found_taken_out : (test : Entry → Bool) (w : Waiter) → Earliest test (in_use s l) w
       → Change s.waiting l (s.waiting - 1) (taken_out s.waiting w.place l)
-  found-taken-out test w first =
+  found_taken_out test w first =
       let fits : s.waiting ≤ length l = omega (arith, most, long_list none) in
-      let here = (found-in-use s l fits test w first).0 in
+      let here = (found_in_use s l fits test w first).0 in
       took_out w.place _ here most (taken_out_says s.waiting w.place l here fits)
 
   handed_on : (f : Found) → Finds (λ e. meets_set (freed s) e.operation.0) (in_use s l) f → Changes s l (hand_on (freed s) l f)
   handed_on Nobody nobody = nothing
-  handed_on (At w) first = found-taken-out _ w first
+  handed_on (At w) first = found_taken_out _ w first
 
   taken_back : (t : ℕ) (f : Found) → Finds (λ e. eqb e.terminal.0 t) (in_use s l) f → Changes s l (take_back s l f)
   taken_back t Nobody nobody = nothing
-  taken_back t (At w) first = found-taken-out _ w first
+  taken_back t (At w) first = found_taken_out _ w first
 
-  finish-step-changes : Changes s l (finish_step s l)
+  finish_step_changes : Changes s l (finish_step s l)
   unfolding finish_step picked
-  finish-step-changes = handed_on (picked (freed s) l) (seek_finds _ (in_use s l))
+  finish_step_changes = handed_on (picked (freed s) l) (seek_finds _ (in_use s l))
 
-  withdraw-step-changes : (t : ℕ) → Changes s l (withdraw_step s l t)
+  withdraw_step_changes : (t : ℕ) → Changes s l (withdraw_step s l t)
   unfolding withdraw_step entry_of
-  withdraw-step-changes t = taken_back t (entry_of s l t) (seek_finds _ (in_use s l))
+  withdraw_step_changes t = taken_back t (entry_of s l t) (seek_finds _ (in_use s l))
 
 module _ (s s' : Session) (l l' : List Entry) (t : Terminal) where
-  pub ask-changes : (n : Name) (r : AskReply) → Asks s l t n r s' l' → Change s.waiting l s'.waiting l'
-  ask-changes n r asks = served (Changes s l) asks (λ m. nothing) (λ none. decided s l t n none (entry_for s t n) _ refl)
+  pub ask_changes : (n : Name) (r : AskReply) → Asks s l t n r s' l' → Change s.waiting l s'.waiting l'
+  ask_changes n r asks = served (Changes s l) asks (λ m. nothing) (λ none. decided s l t n none (entry_for s t n) _ refl)
 
-  pub finish-changes : (r : FinishReply) → Finishes s l t r s' l' → Change s.waiting l s'.waiting l'
-  finish-changes r finishes = served (Changes s l) finishes (λ m. nothing) (finish-step-changes s l)
+  pub finish_changes : (r : FinishReply) → Finishes s l t r s' l' → Change s.waiting l s'.waiting l'
+  finish_changes r finishes = served (Changes s l) finishes (λ m. nothing) (finish_step_changes s l)
 
-  pub withdraw-changes : (r : WithdrawReply) → Withdraws s l t r s' l' → Change s.waiting l s'.waiting l'
-  withdraw-changes r withdraws =
-      served (Changes s l) withdraws (λ m. nothing) (λ none. withdraw-step-changes s l none t.0)
+  pub withdraw_changes : (r : WithdrawReply) → Withdraws s l t r s' l' → Change s.waiting l s'.waiting l'
+  withdraw_changes r withdraws =
+      served (Changes s l) withdraws (λ m. nothing) (λ none. withdraw_step_changes s l none t.0)

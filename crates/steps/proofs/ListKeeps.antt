@@ -62,9 +62,9 @@ module _ (n at : ℕ) (l : List Entry) (fits : n ≤ length l) (here : at < n) w
       go (inl a) = let (used, same) = stays i h a in rw same (all i used (omega arith))
       go (inr a) = let (used, same) = moves i h a in rw same (all (suc i) used (omega arith))
 
-  left-differ : ((i j : ℕ) → i < n → j < n → terminal_in l i ≡ terminal_in l j → i ≡ j)
+  left_differ : ((i j : ℕ) → i < n → j < n → terminal_in l i ≡ terminal_in l j → i ≡ j)
       → (i j : ℕ) → i < n - 1 → j < n - 1 → terminal_in (taken_out n at l) i ≡ terminal_in (taken_out n at l) j → i ≡ j
-  left-differ differ i j h k q = go (below_or_not i at) (below_or_not j at)
+  left_differ differ i j h k q = go (below_or_not i at) (below_or_not j at)
     where
       one_place : {i' j' : ℕ} → Stood i i' → Stood j j' → i' ≡ j'
       one_place {i'} {j'} a b = differ i' j' a.0 b.0 (cc (a.1, b.1))
@@ -75,47 +75,47 @@ module _ (n at : ℕ) (l : List Entry) (fits : n ≤ length l) (here : at < n) w
       go (inr a) (inl b) = omega (arith, one_place (moves i h a) (stays j k b))
       go (inr a) (inr b) = omega (arith, one_place (moves i h a) (moves j k b))
 
-  pub left-listed : (names : ℕ) → Listed names n l → Listed names (n - 1) (taken_out n at l)
-  left-listed names all =
+  pub left_listed : (names : ℕ) → Listed names n l → Listed names (n - 1) (taken_out n at l)
+  left_listed names all =
       record {
         below = each_left (λ e. e.terminal.0 < 64) (λ i h other. all.below i h);
-        differ = left-differ all.differ;
+        differ = left_differ all.differ;
         exist = each_left (λ e. e.operation.0 < names) (λ i h other. all.exist i h);
       }
 
 -- entry e is put behind n others
 module _ (n : ℕ) (e : Entry) (l : List Entry) (room : n < length l) where
-  put-before : (i : ℕ) → i < n → get_or (set l n e) i blank_entry ≡ get_or l i blank_entry
-  put-before i h = get_or-set_other l n i e blank_entry (omega arith)
+  put_before : (i : ℕ) → i < n → get_or (set l n e) i blank_entry ≡ get_or l i blank_entry
+  put_before i h = get_or-set_other l n i e blank_entry (omega arith)
 
   put_last : (i : ℕ) → i < suc n → n ≤ i → get_or (set l n e) i blank_entry ≡ e
   put_last i h behind = let here : i ≡ n = omega arith in rw here (get_or-set_same l n e blank_entry room)
 
   -- what holds of each of the others and of e holds of each
-  pub each-put : (P : Entry → Type 0) → ((i : ℕ) → i < n → P (get_or l i blank_entry)) → P e
+  pub each_put : (P : Entry → Type 0) → ((i : ℕ) → i < n → P (get_or l i blank_entry)) → P e
       → (i : ℕ) → i < suc n → P (get_or (set l n e) i blank_entry)
-  each-put P all last i h = go (below_or_not i n)
+  each_put P all last i h = go (below_or_not i n)
     where
       go : (i < n) ⊎ (n ≤ i) → P (get_or (set l n e) i blank_entry)
-      go (inl before) = rw (put-before i before) (all i before)
+      go (inl before) = rw (put_before i before) (all i before)
       go (inr behind) = rw (put_last i h behind) last
 
-  put-differ : ((i j : ℕ) → i < n → j < n → terminal_in l i ≡ terminal_in l j → i ≡ j)
+  put_differ : ((i j : ℕ) → i < n → j < n → terminal_in l i ≡ terminal_in l j → i ≡ j)
       → ((i : ℕ) → i < n → terminal_in l i ≢ e.terminal.0)
       → (i j : ℕ) → i < suc n → j < suc n → terminal_in (set l n e) i ≡ terminal_in (set l n e) j → i ≡ j
-  put-differ differ new i j h k q = go (below_or_not i n) (below_or_not j n)
+  put_differ differ new i j h k q = go (below_or_not i n) (below_or_not j n)
     where
       go : (i < n) ⊎ (n ≤ i) → (j < n) ⊎ (n ≤ j) → i ≡ j
-      go (inl a) (inl b) = differ i j a b (cc (put-before i a, put-before j b))
-      go (inl a) (inr b) = absurd (new i a (cc (put-before i a, put_last j k b)))
-      go (inr a) (inl b) = absurd (new j b (cc (put-before j b, put_last i h a)))
+      go (inl a) (inl b) = differ i j a b (cc (put_before i a, put_before j b))
+      go (inl a) (inr b) = absurd (new i a (cc (put_before i a, put_last j k b)))
+      go (inr a) (inl b) = absurd (new j b (cc (put_before j b, put_last i h a)))
       go (inr a) (inr b) = omega arith
 
-  pub put-listed : (names : ℕ) → Listed names n l → e.terminal.0 < 64 → ((i : ℕ) → i < n → terminal_in l i ≢ e.terminal.0)
+  pub put_listed : (names : ℕ) → Listed names n l → e.terminal.0 < 64 → ((i : ℕ) → i < n → terminal_in l i ≢ e.terminal.0)
       → e.operation.0 < names → Listed names (suc n) (set l n e)
-  put-listed names all few new known =
+  put_listed names all few new known =
       record {
-        below = each-put (λ e. e.terminal.0 < 64) all.below few;
-        differ = put-differ all.differ new;
-        exist = each-put (λ e. e.operation.0 < names) all.exist known;
+        below = each_put (λ e. e.terminal.0 < 64) all.below few;
+        differ = put_differ all.differ new;
+        exist = each_put (λ e. e.operation.0 < names) all.exist known;
       }

@@ -34,9 +34,9 @@ module _ (s : Session) (l : List Entry) (t : Table) where
   abbrev Good : Opened → Type 0
   Good v = Serves (OpenRow t l) s l (open_step t l) (outcome v)
 
-  long-served : (long : 64 ≤ length l) (b : Bool) → (b ≡ true) ↔ TableSound t → Good (open_value b s (length l) t)
+  long_served : (long : 64 ≤ length l) (b : Bool) → (b ≡ true) ↔ TableSound t → Good (open_value b s (length l) t)
   unfolding open_value open_step blanked
-  long-served long false says =
+  long_served long false says =
       rw (le-ltb (length l) 64 long)
       (refuses 9
       (record {
@@ -44,19 +44,19 @@ module _ (s : Session) (l : List Entry) (t : Table) where
         none_before = λ k before row. absurd (omega (arith, before, (open_rows_left t l row).1 long));
       })
       refl)
-  long-served long true says = rw (le-ltb (length l) 64 long) (does (λ m row. (open_rows_left t l row).2 long (says.0 refl)) refl)
+  long_served long true says = rw (le-ltb (length l) 64 long) (does (λ m row. (open_rows_left t l row).2 long (says.0 refl)) refl)
 
-  open-served : (b : Bool) → (b ≡ true) ↔ TableSound t → Good (open_value b s (length l) t)
+  open_served : (b : Bool) → (b ≡ true) ↔ TableSound t → Good (open_value b s (length l) t)
   unfolding open_value blanked
-  open-served b says =
+  open_served b says =
       ⊎_elim
       (λ short.
       rw (lt-ltb (length l) 64 short)
       (refuses 8
       (record { applies = short_list short; none_before = λ k before row. absurd (omega (arith, before, (open_rows_left t l row).0)) }) refl))
-      (λ long. long-served long b says)
+      (λ long. long_served long b says)
       (below_or_not (length l) 64)
 
 pub open_opens : (s : Session) (l : List Entry) (t : Table) (v : Opened) → OpenedBy s (length l) t v
     → Opens s l t v.reply v.session (blanked v.blanks l)
-open_opens s l t v by = rw by.is (open-served s l t by.sound by.says)
+open_opens s l t v by = rw by.is (open_served s l t by.sound by.says)

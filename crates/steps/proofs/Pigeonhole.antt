@@ -41,17 +41,17 @@ module _ (n m : ℕ) (f : ℕ → ℕ) (d : Different n (suc m) f) (z : ℕ) (fe
   lower i l r (replaced p q) = omega (arith, spare i l)
   lower i l r (kept p q) = omega (arith, d.below i l)
 
-  still-apart : (i j : ℕ) → i < n → j < n → (r : ℕ) → Replaced m z (f i) r → Replaced m z (f j) r → i ≡ j
-  still-apart i j k l r (replaced p q) (replaced p' q') = d.apart i j k l (p ∙ sym p')
-  still-apart i j k l r (replaced p q) (kept p' q') = absurd (spare j l (sym q' ∙ q))
-  still-apart i j k l r (kept p q) (replaced p' q') = absurd (spare i k (sym q ∙ q'))
-  still-apart i j k l r (kept p q) (kept p' q') = d.apart i j k l (sym q ∙ q')
+  still_apart : (i j : ℕ) → i < n → j < n → (r : ℕ) → Replaced m z (f i) r → Replaced m z (f j) r → i ≡ j
+  still_apart i j k l r (replaced p q) (replaced p' q') = d.apart i j k l (p ∙ sym p')
+  still_apart i j k l r (replaced p q) (kept p' q') = absurd (spare j l (sym q' ∙ q))
+  still_apart i j k l r (kept p q) (replaced p' q') = absurd (spare i k (sym q ∙ q'))
+  still_apart i j k l r (kept p q) (kept p' q') = d.apart i j k l (sym q ∙ q')
 
-  with-one-spare : Different n m (λ i. instead_of m z (f i))
-  with-one-spare =
+  with_one_spare : Different n m (λ i. instead_of m z (f i))
+  with_one_spare =
       record {
         below = λ i l. lower i l _ (replaces m z (f i));
-        apart = λ i j k l e. still-apart i j k l _ (rw e at (replaces m z (f i))) (replaces m z (f j));
+        apart = λ i j k l e. still_apart i j k l _ (rw e at (replaces m z (f i))) (replaces m z (f j));
       }
 
 pub pigeonhole : (m n : ℕ) (f : ℕ → ℕ) → Different n m f → n ≤ m
@@ -59,10 +59,10 @@ pigeonhole m zero f d = omega arith
 pigeonhole zero (suc n) f d = absurd (omega (arith, d.below 0 (omega arith)))
 pigeonhole (suc m) (suc n) f d =
     let last : (i : ℕ) → i < n → f i ≢ f n = λ i l e. omega (arith, d.apart i n (omega arith) (omega arith) e) in
-    omega (arith, pigeonhole m n _ (with-one-spare n m f (all_but_last d) (f n) (d.below n (omega arith)) last))
+    omega (arith, pigeonhole m n _ (with_one_spare n m f (all_but_last d) (f n) (d.below n (omega arith)) last))
 
 pub room_for_one : RoomForOne
 room_for_one s l t sound few waits-not =
     let n = s.waiting in
     let all : Different n 64 (terminal_in l) = record { below = sound.terminals_below; apart = sound.terminals_differ } in
-    omega (arith, pigeonhole 63 n _ (with-one-spare n 63 (terminal_in l) all t few (λ i h e. waits-not (i, h, e))))
+    omega (arith, pigeonhole 63 n _ (with_one_spare n 63 (terminal_in l) all t few (λ i h e. waits-not (i, h, e))))

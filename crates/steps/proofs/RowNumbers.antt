@@ -32,44 +32,44 @@ module _ (s : Session) (l : List Entry) where
   rows_left (withdraw_by_another t e h) = (omega arith, λ long. omega arith, λ long d. omega arith, λ long d b. omega arith)
 
   -- those that an ask has besides
-  pub ask-rows-left : (t : ℕ) (n : Name) {k : ℕ} → Row s l (ask t n) k → 11 ≤ k
+  pub ask_rows_left : (t : ℕ) (n : Name) {k : ℕ} → Row s l (ask t n) k → 11 ≤ k
       → (holds (names_of s.table) (key n) ≡ true → 12 ≤ k)
       × (holds (names_of s.table) (key n) ≡ true → ¬ Runs s t → 13 ≤ k)
       × (holds (names_of s.table) (key n) ≡ true → ¬ Runs s t → ¬ Waits s l t → ⊥)
-  ask-rows-left t n (short_list h) from = absurd (omega arith)
-  ask-rows-left t n (unsound h) from = absurd (omega arith)
-  ask-rows-left t n (terminal_above_63 h) from = absurd (omega arith)
-  ask-rows-left t n (no_such_operation u m e h) from =
+  ask_rows_left t n (short_list h) from = absurd (omega arith)
+  ask_rows_left t n (unsound h) from = absurd (omega arith)
+  ask_rows_left t n (terminal_above_63 h) from = absurd (omega arith)
+  ask_rows_left t n (no_such_operation u m e h) from =
       let q : n ≡ m = cc in
       let unknown : ¬ (holds (names_of s.table) (key n) ≡ true) = λ known. false≢true (sym h ∙ rw q at known) in
       (λ known. absurd (unknown known), λ known r. absurd (unknown known), λ known r w. unknown known)
-  ask-rows-left t n (ask_by_the_running u m e h) from =
+  ask_rows_left t n (ask_by_the_running u m e h) from =
       let q : t ≡ u = cc in
       (λ known. omega arith, λ known r. absurd (r (rw q h)), λ known r w. r (rw q h))
-  ask-rows-left t n (ask_by_a_waiting u m e h) from =
+  ask_rows_left t n (ask_by_a_waiting u m e h) from =
       let q : t ≡ u = cc in
       (λ known. omega arith, λ known r. omega arith, λ known r w. w (rw q h))
-  ask-rows-left t n (finish_by_another u e h) from = let z : ◌≡◌ {A = ℕ} 0 1 = cc in absurd (omega arith)
-  ask-rows-left t n (withdraw_by_another u e h) from = let z : ◌≡◌ {A = ℕ} 0 1 = cc in absurd (omega arith)
+  ask_rows_left t n (finish_by_another u e h) from = let z : ◌≡◌ {A = ℕ} 0 1 = cc in absurd (omega arith)
+  ask_rows_left t n (withdraw_by_another u e h) from = let z : ◌≡◌ {A = ℕ} 0 1 = cc in absurd (omega arith)
 
   -- that a finish has besides
-  pub finish-rows-left : (t : ℕ) {k : ℕ} → Row s l (finish t) k → 11 ≤ k → (14 ≤ k) × (Runs s t → ⊥)
-  finish-rows-left t (short_list h) from = absurd (omega arith)
-  finish-rows-left t (unsound h) from = absurd (omega arith)
-  finish-rows-left t (terminal_above_63 h) from = absurd (omega arith)
-  finish-rows-left t (no_such_operation u m e h) from = let z : ◌≡◌ {A = ℕ} 0 1 = cc in absurd (omega arith)
-  finish-rows-left t (ask_by_the_running u m e h) from = let z : ◌≡◌ {A = ℕ} 0 1 = cc in absurd (omega arith)
-  finish-rows-left t (ask_by_a_waiting u m e h) from = let z : ◌≡◌ {A = ℕ} 0 1 = cc in absurd (omega arith)
-  finish-rows-left t (finish_by_another u e h) from = let q : t ≡ u = cc in (omega arith, λ r. h (rw q at r))
-  finish-rows-left t (withdraw_by_another u e h) from = let z : ◌≡◌ {A = ℕ} 0 1 = cc in absurd (omega arith)
+  pub finish_rows_left : (t : ℕ) {k : ℕ} → Row s l (finish t) k → 11 ≤ k → (14 ≤ k) × (Runs s t → ⊥)
+  finish_rows_left t (short_list h) from = absurd (omega arith)
+  finish_rows_left t (unsound h) from = absurd (omega arith)
+  finish_rows_left t (terminal_above_63 h) from = absurd (omega arith)
+  finish_rows_left t (no_such_operation u m e h) from = let z : ◌≡◌ {A = ℕ} 0 1 = cc in absurd (omega arith)
+  finish_rows_left t (ask_by_the_running u m e h) from = let z : ◌≡◌ {A = ℕ} 0 1 = cc in absurd (omega arith)
+  finish_rows_left t (ask_by_a_waiting u m e h) from = let z : ◌≡◌ {A = ℕ} 0 1 = cc in absurd (omega arith)
+  finish_rows_left t (finish_by_another u e h) from = let q : t ≡ u = cc in (omega arith, λ r. h (rw q at r))
+  finish_rows_left t (withdraw_by_another u e h) from = let z : ◌≡◌ {A = ℕ} 0 1 = cc in absurd (omega arith)
 
   -- and that a withdrawal has
-  pub withdraw-rows-left : (t : ℕ) {k : ℕ} → Row s l (withdraw t) k → 11 ≤ k → (15 ≤ k) × (Waits s l t → ⊥)
-  withdraw-rows-left t (short_list h) from = absurd (omega arith)
-  withdraw-rows-left t (unsound h) from = absurd (omega arith)
-  withdraw-rows-left t (terminal_above_63 h) from = absurd (omega arith)
-  withdraw-rows-left t (no_such_operation u m e h) from = let z : ◌≡◌ {A = ℕ} 0 1 = cc in absurd (omega arith)
-  withdraw-rows-left t (ask_by_the_running u m e h) from = let z : ◌≡◌ {A = ℕ} 0 1 = cc in absurd (omega arith)
-  withdraw-rows-left t (ask_by_a_waiting u m e h) from = let z : ◌≡◌ {A = ℕ} 0 1 = cc in absurd (omega arith)
-  withdraw-rows-left t (finish_by_another u e h) from = let z : ◌≡◌ {A = ℕ} 0 1 = cc in absurd (omega arith)
-  withdraw-rows-left t (withdraw_by_another u e h) from = let q : t ≡ u = cc in (omega arith, λ w. h (rw q at w))
+  pub withdraw_rows_left : (t : ℕ) {k : ℕ} → Row s l (withdraw t) k → 11 ≤ k → (15 ≤ k) × (Waits s l t → ⊥)
+  withdraw_rows_left t (short_list h) from = absurd (omega arith)
+  withdraw_rows_left t (unsound h) from = absurd (omega arith)
+  withdraw_rows_left t (terminal_above_63 h) from = absurd (omega arith)
+  withdraw_rows_left t (no_such_operation u m e h) from = let z : ◌≡◌ {A = ℕ} 0 1 = cc in absurd (omega arith)
+  withdraw_rows_left t (ask_by_the_running u m e h) from = let z : ◌≡◌ {A = ℕ} 0 1 = cc in absurd (omega arith)
+  withdraw_rows_left t (ask_by_a_waiting u m e h) from = let z : ◌≡◌ {A = ℕ} 0 1 = cc in absurd (omega arith)
+  withdraw_rows_left t (finish_by_another u e h) from = let z : ◌≡◌ {A = ℕ} 0 1 = cc in absurd (omega arith)
+  withdraw_rows_left t (withdraw_by_another u e h) from = let q : t ≡ u = cc in (omega arith, λ w. h (rw q at w))

@@ -25,9 +25,9 @@ use Rattle.steps.specs.Steps.{is_free, opening, granting, counting, freed, open_
 use Rattle.steps.specs.Steps.{picked, hand_on, finish_step, entry_of, take_back, withdraw_step}
 use Rattle.standing.proofs.States.{free_not_running, same_runner}
 use Rattle.steps.proofs.Pigeonhole.{room_for_one}
-use Rattle.standing.proofs.Seeking.{Finds, seek_finds, found-in-use, nobody-in-use}
+use Rattle.standing.proofs.Seeking.{Finds, seek_finds, found_in_use, nobody_in_use}
 use Rattle.steps.proofs.RecordKeeps.{opening_sound, granting_sound, counting_sound, freed_sound}
-use Rattle.steps.proofs.ListKeeps.{Listed, listed, sound_by, each_left, left-listed, each-put, put-listed}
+use Rattle.steps.proofs.ListKeeps.{Listed, listed, sound_by, each_left, left_listed, each_put, put_listed}
 
 -- an entry's operation meets the set
 abbrev meets : Session → Entry → Bool
@@ -60,25 +60,25 @@ module _ (s : Session) (l : List Entry) (e : Entry) (long : 64 ≤ length l) (so
   new : (i : ℕ) → i < s.waiting → terminal_in l i ≢ e.terminal.0
   new i h q = waits-not (i, h, q)
 
-  grant-sound : meets s e ≡ true → Sound (granting s e s.waiting) l
-  grant-sound met =
+  grant_sound : meets s e ≡ true → Sound (granting s e s.waiting) l
+  grant_sound met =
       granting_by s e s.waiting l
       (granting_sound s e s.waiting sound.record_sound met few sound.record_sound.count_most)
       (listed s l sound) new
 
-  delay-sound : is_free s.state && meets s e ≡ false → Sound (counting s (suc s.waiting)) (set l s.waiting e)
-  delay-sound unmet =
+  delay_sound : is_free s.state && meets s e ≡ false → Sound (counting s (suc s.waiting)) (set l s.waiting e)
+  delay_sound unmet =
       let room = room_for_one s l e.terminal.0 sound few waits-not in
-      let each = each-put s.waiting e l (omega arith) in
+      let each = each_put s.waiting e l (omega arith) in
       sound_by (counting s (suc s.waiting)) (set l s.waiting e)
       (counting_sound s (suc s.waiting) sound.record_sound room)
-      (put-listed s.waiting e l (omega arith) s.table.names (listed s l sound) few new known)
+      (put_listed s.waiting e l (omega arith) s.table.names (listed s l sound) few new known)
       (λ u q.
       each (λ d. d.terminal.0 ≢ u.0) (sound.none_runs u q)
       (λ same. runs-not (q ∙ ap (λ (n : ℕ). Running (record { 0 = n })) (sym same))))
       (λ q. each (λ d. meets s d ≡ false) (sound.nobody_permitted q) (rw q at unmet))
 
-  ask-sound : (b : Bool) → is_free s.state && meets s e ≡ b
+  ask_sound : (b : Bool) → is_free s.state && meets s e ≡ b
       → SoundAfter
       (cond b (record { answer = granted; session = granting s e s.waiting; list = l })
       (record {
@@ -86,15 +86,15 @@ module _ (s : Session) (l : List Entry) (e : Entry) (long : 64 ≤ length l) (so
         session = counting s (suc s.waiting);
         list = set l (place_of (in_use s l) e) e;
       }))
-  ask-sound true q = grant-sound ((and-eq-true_iff (is_free s.state) (meets s e)).0 q).1
-  ask-sound false q =
+  ask_sound true q = grant_sound ((and-eq-true_iff (is_free s.state) (meets s e)).0 q).1
+  ask_sound false q =
       let most = sound.record_sound.count_most in
       let all : length (in_use s l) ≡ s.waiting = length-take-le s.waiting l (omega arith) in
-      rw all (delay-sound q)
+      rw all (delay_sound q)
 
 pub ask_step_keeps : AskStepKeeps
 unfolding ask_step
-ask_step_keeps s l e long sound few runs-not waits-not known = ask-sound s l e long sound few runs-not waits-not known _ refl
+ask_step_keeps s l e long sound few runs-not waits-not known = ask_sound s l e long sound few runs-not waits-not known _ refl
 
 module _ (s : Session) (l : List Entry) (long : 64 ≤ length l) (sound : Sound s l) where
   fits : s.waiting ≤ length l
@@ -103,35 +103,35 @@ module _ (s : Session) (l : List Entry) (long : 64 ≤ length l) (sound : Sound 
   fewer : s.waiting - 1 ≤ 64
   fewer = omega (arith, sound.record_sound.count_most)
 
-  handed-sound : (f : Found) → Finds (meets (freed s)) (in_use s l) f → SoundAfter (hand_on (freed s) l f)
-  handed-sound Nobody none =
+  handed_sound : (f : Found) → Finds (meets (freed s)) (in_use s l) f → SoundAfter (hand_on (freed s) l f)
+  handed_sound Nobody none =
       sound_by (freed s) l (freed_sound s sound.record_sound) (listed s l sound) (λ u q. free_not_running u q)
-      (λ q. nobody-in-use s l fits (meets (freed s)) none)
-  handed-sound (At w) first =
-      let (here, there) = found-in-use s l fits (meets (freed s)) w first in
+      (λ q. nobody_in_use s l fits (meets (freed s)) none)
+  handed_sound (At w) first =
+      let (here, there) = found_in_use s l fits (meets (freed s)) w first in
       let same : terminal_in l w.place ≡ w.entry.terminal.0 = ap (λ (e : Entry). e.terminal.0) there in
       let few : w.entry.terminal.0 < 64 = omega (arith, sound.terminals_below w.place here) in
       granting_by (freed s) w.entry (s.waiting - 1) (taken_out s.waiting w.place l)
       (granting_sound (freed s) w.entry (s.waiting - 1) (freed_sound s sound.record_sound) first.passes few fewer)
-      (left-listed s.waiting w.place l fits here s.table.names (listed s l sound))
+      (left_listed s.waiting w.place l fits here s.table.names (listed s l sound))
       (each_left s.waiting w.place l fits here (λ e. e.terminal.0 ≢ w.entry.terminal.0)
       (λ i h other q. other (sound.terminals_differ i w.place h here (q ∙ sym same))))
 
-  taken-back-sound : (t : ℕ) (f : Found) → Finds (λ e. eqb e.terminal.0 t) (in_use s l) f → SoundAfter (take_back s l f)
-  taken-back-sound t Nobody none = sound
-  taken-back-sound t (At w) first =
-      let here = (found-in-use s l fits (λ e. eqb e.terminal.0 t) w first).0 in
+  taken_back_sound : (t : ℕ) (f : Found) → Finds (λ e. eqb e.terminal.0 t) (in_use s l) f → SoundAfter (take_back s l f)
+  taken_back_sound t Nobody none = sound
+  taken_back_sound t (At w) first =
+      let here = (found_in_use s l fits (λ e. eqb e.terminal.0 t) w first).0 in
       let each = each_left s.waiting w.place l fits here in
       sound_by (counting s (s.waiting - 1)) (taken_out s.waiting w.place l)
       (counting_sound s (s.waiting - 1) sound.record_sound fewer)
-      (left-listed s.waiting w.place l fits here s.table.names (listed s l sound))
+      (left_listed s.waiting w.place l fits here s.table.names (listed s l sound))
       (λ u q. each (λ e. e.terminal.0 ≢ u.0) (λ i h other. sound.none_runs u q i h))
       (λ q. each (λ e. meets s e ≡ false) (λ i h other. sound.nobody_permitted q i h))
 
 pub finish_step_keeps : FinishStepKeeps
 unfolding finish_step picked
-finish_step_keeps s l long sound = handed-sound s l long sound (picked (freed s) l) (seek_finds _ (in_use s l))
+finish_step_keeps s l long sound = handed_sound s l long sound (picked (freed s) l) (seek_finds _ (in_use s l))
 
 pub withdraw_step_keeps : WithdrawStepKeeps
 unfolding withdraw_step entry_of
-withdraw_step_keeps s l t long sound = taken-back-sound s l long sound t (entry_of s l t) (seek_finds _ (in_use s l))
+withdraw_step_keeps s l t long sound = taken_back_sound s l long sound t (entry_of s l t) (seek_finds _ (in_use s l))

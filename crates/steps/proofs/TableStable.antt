@@ -44,8 +44,8 @@ module _ (t : Table) (not-unsound : ¬ ¬ Sound t) where
   clause : {A : Type 0} → Stable A → (Sound t → A) → A
   clause stable of = stable (λ k. not-unsound (λ sound. k (of sound)))
 
-  pub table-stable : Sound t
-  table-stable =
+  pub table_stable : Sound t
+  table_stable =
       record {
         positions_some = clause (at_most _ _) (λ sound. sound.positions_some);
         positions_most = clause (at_most _ _) (λ sound. sound.positions_most);

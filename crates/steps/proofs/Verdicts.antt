@@ -26,10 +26,10 @@ use Rattle.standing.specs.Soundness.{RecordSound, Sound}
 use Rattle.steps.specs.Refusals.{Row, First, terminal_of, Waits}
 use Rattle.steps.specs.Refusals.Row.{short_list, unsound, terminal_above_63}
 use Rattle.steps.specs.Values.{first_number, runs_in, is_found}
-use Rattle.standing.proofs.Looking.{looked-own}
+use Rattle.standing.proofs.Looking.{looked_own}
 use Rattle.steps.proofs.RowNumbers.{rows_left}
 use Rattle.standing.proofs.Seeking.{Finds, seek_finds}
-use Rattle.standing.proofs.SoundLists.{in_use, looking-decides}
+use Rattle.standing.proofs.SoundLists.{length_in_use, looking_decides}
 use Rattle.standing.proofs.States.{free_not_running, same_runner}
 
 -- the running terminal
@@ -52,7 +52,7 @@ pub entry_waits : (s : Session) (l : List Entry) (u : ℕ) → 64 ≤ length l �
 entry_waits s l u long r =
     let test : Entry → Bool = λ e. eqb e.terminal.0 u in
     let says = found_says test (in_use s l) (seek test (in_use s l)) (seek_finds test (in_use s l)) in
-    let count = in_use s l (record { 0 = u }) 0 long r in (
+    let count = length_in_use s l (record { 0 = u }) 0 long r in (
       λ h.
           let i = says.0 h in
           let there : i.0 < s.waiting = omega (arith, i.1, count) in (
@@ -74,11 +74,11 @@ module _ (s : Session) (l : List Entry) (t : Terminal) (w : ℕ) where
 
   pub own_found : found.own ≡ seek (λ e. eqb e.terminal.0 t.0) (in_use s l)
   unfolding searching
-  own_found = looked-own (searching s t w) (in_use s l) refl
+  own_found = looked_own (searching s t w) (in_use s l) refl
 
   -- the waiting terminals
-  pub waits-says : 64 ≤ length l → RecordSound s → (is_found found.own ≡ true) ↔ Waits s l t.0
-  waits-says long r = rw own_found (entry_waits s l t.0 long r)
+  pub waits_says : 64 ≤ length l → RecordSound s → (is_found found.own ≡ true) ↔ Waits s l t.0
+  waits_says long r = rw own_found (entry_waits s l t.0 long r)
 
   -- what holds of a call that is past 8, 9 and 10
   pub record Passed : Type 0 where
@@ -96,16 +96,16 @@ module _ (s : Session) (l : List Entry) (t : Terminal) (w : ℕ) where
       goes : number ≡ 0 → Passed → Common c
 
     module _ (c : Call) (whose : terminal_of c ≡ t.0) where
-      past-sound : (long : 64 ≤ length l) → sound ≡ true → RecordSound s → (b : Bool) → found.fits ≡ b → Common c
+      past_sound : (long : 64 ≤ length l) → sound ≡ true → RecordSound s → (b : Bool) → found.fits ≡ b → Common c
       unfolding first_number
-      past-sound long e r false fits =
+      past_sound long e r false fits =
           stops 9 refl (rw (le-ltb (length l) 64 long, e, fits))
           (record {
-            applies = unsound (λ d. false≢true (sym fits ∙ (looking-decides s l t w long r).1 d));
+            applies = unsound (λ d. false≢true (sym fits ∙ (looking_decides s l t w long r).1 d));
             none_before = λ k before row. absurd (omega (arith, before, (rows_left s l row).1 long));
           })
-      past-sound long e r true fits =
-          let d = (looking-decides s l t w long r).0 fits in
+      past_sound long e r true fits =
+          let d = (looking_decides s l t w long r).0 fits in
           ⊎_elim
           (λ below.
           goes (rw (le-ltb (length l) 64 long, e, fits, le-ltb 63 t.0 (omega (arith, below))))
@@ -118,15 +118,15 @@ module _ (s : Session) (l : List Entry) (t : Terminal) (w : ℕ) where
           }))
           (below_or_not t.0 64)
 
-      past-length : (long : 64 ≤ length l) → (b : Bool) → sound ≡ b → Common c
+      past_length : (long : 64 ≤ length l) → (b : Bool) → sound ≡ b → Common c
       unfolding first_number
-      past-length long false e =
+      past_length long false e =
           stops 9 refl (rw (le-ltb (length l) 64 long, e))
           (record {
             applies = unsound (λ d. false≢true (sym e ∙ says.1 d.record_sound));
             none_before = λ k before row. absurd (omega (arith, before, (rows_left s l row).1 long));
           })
-      past-length long true e = past-sound long e (says.0 e) found.fits refl
+      past_length long true e = past_sound long e (says.0 e) found.fits refl
 
       pub common : Common c
       unfolding first_number
@@ -138,5 +138,5 @@ module _ (s : Session) (l : List Entry) (t : Terminal) (w : ℕ) where
             applies = short_list short;
             none_before = λ k before row. absurd (omega (arith, before, (rows_left s l row).0));
           }))
-          (λ long. past-length long sound refl)
+          (λ long. past_length long sound refl)
           (below_or_not (length l) 64)

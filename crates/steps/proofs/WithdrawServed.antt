@@ -24,8 +24,8 @@ use Rattle.steps.specs.Calling.{Serves, Withdraws, refusing}
 use Rattle.steps.specs.Calling.Serves.{refuses, does}
 use Rattle.steps.specs.Promises.{WithdrawCoreIsStep, LookingFindsOwn}
 use Rattle.steps.specs.Values.{withdraw_outcome, is_found, not_withdrawn, withdraw_core, withdraw_found, withdraw_value, WithdrawnBy}
-use Rattle.steps.proofs.RowNumbers.{rows_left, withdraw-rows-left}
-use Rattle.steps.proofs.Verdicts.{found, own_found, waits-says, Passed, Common, common}
+use Rattle.steps.proofs.RowNumbers.{rows_left, withdraw_rows_left}
+use Rattle.steps.proofs.Verdicts.{found, own_found, waits_says, Passed, Common, common}
 use Rattle.steps.proofs.Verdicts.Common.{stops, goes}
 
 not_withdrawn_told : (s : Session) (l : List Entry) (m : ℕ) → withdraw_outcome l (not_withdrawn s m) ≡ refusing s l m
@@ -41,9 +41,9 @@ module _ (s : Session) (l : List Entry) (t : Terminal) where
   abbrev f : Search
   f = found s l t 0
 
-  own-entry : f.own ≡ entry_of s l t.0
+  own_entry : f.own ≡ entry_of s l t.0
   unfolding entry_of
-  own-entry = own_found s l t 0
+  own_entry = own_found s l t 0
 
   module _ (sound : Bool) (says : (sound ≡ true) ↔ RecordSound s) where
     abbrev rows : ℕ → Type 0
@@ -53,38 +53,38 @@ module _ (s : Session) (l : List Entry) (t : Terminal) where
     abbrev Good : Withdrawn → Type 0
     Good v = Serves rows s l (withdraw_step s l t.0) (withdraw_outcome l v)
 
-    refused-by : (m : ℕ) → First rows m → Good (not_withdrawn s m)
-    refused-by m first = refuses m first (not_withdrawn_told s l m)
+    refused_by : (m : ℕ) → First rows m → Good (not_withdrawn s m)
+    refused_by m first = refuses m first (not_withdrawn_told s l m)
 
     -- past the tests of every call: 15, or the step
     past : (p : Passed s l t 0) → (own : Found) → f.own ≡ own → Good (withdraw_found s own)
     past p Nobody nobody =
-        refused-by 15
+        refused_by 15
         (record {
           applies = withdraw_by_another t.0 refl
-              (λ w. false≢true (ap is_found (sym nobody) ∙ (waits-says s l t 0 p.long p.is_sound.record_sound).1 w));
+              (λ w. false≢true (ap is_found (sym nobody) ∙ (waits_says s l t 0 p.long p.is_sound.record_sound).1 w));
           none_before = λ k before row.
               absurd
-              (omega (arith, before, (withdraw-rows-left s l t.0 row ((rows_left s l row).3 p.long p.is_sound p.below)).0));
+              (omega (arith, before, (withdraw_rows_left s l t.0 row ((rows_left s l row).3 p.long p.is_sound p.below)).0));
         })
     past p (At w) there =
         does
         (λ m row.
-        (withdraw-rows-left s l t.0 row ((rows_left s l row).3 p.long p.is_sound p.below)).1
-        ((waits-says s l t 0 p.long p.is_sound.record_sound).0 (ap is_found there)))
-        (withdraw_core_is_step s l t.0 w (sym own-entry ∙ there))
+        (withdraw_rows_left s l t.0 row ((rows_left s l row).3 p.long p.is_sound p.below)).1
+        ((waits_says s l t 0 p.long p.is_sound.record_sound).0 (ap is_found there)))
+        (withdraw_core_is_step s l t.0 w (sym own_entry ∙ there))
 
-    pub withdraw-served : Good (withdraw_value sound s (length l) f t)
+    pub withdraw_served : Good (withdraw_value sound s (length l) f t)
     unfolding withdraw_value
-    withdraw-served = by_number (common s l t 0 sound says (withdraw t.0) refl)
+    withdraw_served = by_number (common s l t 0 sound says (withdraw t.0) refl)
       where
         by_number : Common s l t 0 sound says (withdraw t.0) → Good (withdraw_value sound s (length l) f t)
-        by_number (stops m some e first) = rw (e, some) (refused-by m first)
+        by_number (stops m some e first) = rw (e, some) (refused_by m first)
         by_number (goes e p) = rw e (past p f.own refl)
 
 pub withdraw_withdraws : (s : Session) (l : List Entry) (t : Terminal) (f : Search) (v : Withdrawn) → f ≡ looked 0 (looking s t) (in_use s l)
     → WithdrawnBy s (length l) f t v → Withdraws s l t v.reply v.session (taken_out v.used v.place l)
-withdraw_withdraws s l t f v e by = rw (by.is, e) (withdraw-served s l t by.sound by.says)
+withdraw_withdraws s l t f v e by = rw (by.is, e) (withdraw_served s l t by.sound by.says)
 
 pub looking_finds_own : LookingFindsOwn
-looking_finds_own s l t = own-entry s l t
+looking_finds_own s l t = own_entry s l t

@@ -28,15 +28,15 @@ module _ (names : ℕ) (ns : List Name) (few : names ≤ length ns) where
       let same_key = ap key (get_or-take j ns i [] l) ∙ e in
       false≢true (sym (new j h) ∙ at_held (take j ns) (key (get_or ns j [])) i there same_key)
 
-  pub new-distinct : EachNew names ns → Distinct names ns
-  new-distinct new i j hi hj e =
+  pub new_distinct : EachNew names ns → Distinct names ns
+  new_distinct new i j hi hj e =
       ⊎_elim
       (λ l. absurd (apart new i j l hj e))
       (λ l. ⊎_elim (λ m. absurd (apart new j i m hi (sym e))) (λ m. omega arith) (below_or_not j i))
       (below_or_not i j)
 
-  pub distinct-new : Distinct names ns → EachNew names ns
-  distinct-new distinct j h = go (holds (take j ns) (key (get_or ns j []))) refl
+  pub distinct_new : Distinct names ns → EachNew names ns
+  distinct_new distinct j h = go (holds (take j ns) (key (get_or ns j []))) refl
     where
       go : (t : Bool) → holds (take j ns) (key (get_or ns j [])) ≡ t → t ≡ false
       go true e =

@@ -29,14 +29,14 @@ module _ (ns : List Name) (k : Name) where
   abbrev pub Unfound : ℕ → Type 0
   Unfound i = (i ≤ length ns) × (holds (take i ns) k ≡ false)
 
-  pub none-searched : Unfound 0
+  pub none_searched : Unfound 0
   unfolding holds
-  none-searched = (omega arith, refl)
+  none_searched = (omega arith, refl)
 
   module _ (i : ℕ) (u : Unfound i) where
-    pub one-more-searched : i < length ns → same (key (get_or ns i [])) k ≡ false → Unfound (i + 1)
+    pub one_more_searched : i < length ns → same (key (get_or ns i [])) k ≡ false → Unfound (i + 1)
     unfolding holds
-    one-more-searched h other = (omega arith, rw (add-one i, take-suc ns i [] h, holds_append, u.1, other))
+    one_more_searched h other = (omega arith, rw (add-one i, take-suc ns i [] h, holds_append, u.1, other))
 
     pub found_here : i < length ns → same (key (get_or ns i [])) k ≡ true → At (record { 0 = i }) ≡ found_in ns k
     unfolding found_in

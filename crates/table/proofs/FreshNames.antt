@@ -16,7 +16,7 @@ use Rattle.table.specs.declared.names.Found.TheVariants.{At, Nowhere}
 use Rattle.table.specs.Cells.{spellings}
 use Rattle.table.specs.Following.{found_in}
 use Rattle.table.specs.Tests.{is_new, fresh_test, used_test, zero_test, zeros_test, name_test, name_at_test}
-use Rattle.table.proofs.Passing.{each-says, each-said}
+use Rattle.table.proofs.Passing.{each_says, each_said}
 use Rattle.table.proofs.Spellings.{spelling_at}
 
 -- a name that is found nowhere is one that the list does not hold
@@ -52,9 +52,9 @@ module _ (names : ℕ) (lengths bytes : List ℕ) (i : ℕ) where
     pub unused : names ≤ i → len ≡ 0
     pub zeros : (k : ℕ) → 16 * i + len ≤ k → k < 16 * i + 16 → get_or bytes k 0 ≡ 0
 
-  pub name-says : i < length lengths → (name_at_test names lengths bytes i ≡ true) ↔ NameSays
+  pub name_says : i < length lengths → (name_at_test names lengths bytes i ≡ true) ↔ NameSays
   unfolding name_test
-  name-says there =
+  name_says there =
       let short = leb len 16 in
       let used = used_test i len names lengths bytes in
       let rest = zeros_test bytes (16 * i + len) (16 * i + 16) in (
@@ -65,10 +65,10 @@ module _ (names : ℕ) (lengths bytes : List ℕ) (i : ℕ) where
               short = leb-true len 16 front.0;
               fresh = λ h. rw (spelling_at lengths bytes i there) (rw (lt-ltb i names h) at front.1);
               unused = λ h. eqb-true len 0 (rw (le-ltb i names h) at front.1);
-              zeros = λ k l h. eqb-true _ _ (each-says (zero_test bytes) (16 * i + len) (16 * i + 16) k both.1 l h);
+              zeros = λ k l h. eqb-true _ _ (each_says (zero_test bytes) (16 * i + len) (16 * i + 16) k both.1 l h);
             },
         λ says.
-            let ends : rest ≡ true = each-said (zero_test bytes) (16 * i + len) (16 * i + 16) (λ k l h. eq-eqb _ _ (says.zeros k l h)) in
+            let ends : rest ≡ true = each_said (zero_test bytes) (16 * i + len) (16 * i + 16) (λ k l h. eq-eqb _ _ (says.zeros k l h)) in
             let fits : used ≡ true =
             ⊎_elim
             (λ h. rw (lt-ltb i names h, ← (spelling_at lengths bytes i there)) (says.fresh h))

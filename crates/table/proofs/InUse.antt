@@ -11,27 +11,27 @@ use lib.Dec.{ltb}
 use lib.ListN.{length, get_or, get_or-eq_default}
 use Rattle.meaning.proofs.SetLaws.{below_or_not}
 use Rattle.table.specs.Tests.{each}
-use Rattle.table.proofs.Passing.{each-says, each-said}
+use Rattle.table.proofs.Passing.{each_says, each_said}
 
 module _ {A : Type 0} (d : A) (used unused : A → Bool) (xs : List A) (n size : ℕ) where
-  abbrev cellTest : ℕ → Bool
-  cellTest p = cond (ltb p n) (used (get_or xs p d)) (unused (get_or xs p d))
+  abbrev cell_test : ℕ → Bool
+  cell_test p = cond (ltb p n) (used (get_or xs p d)) (unused (get_or xs p d))
 
   pub cells_say : length xs ≡ size → n ≤ size → unused d ≡ true
-      → (each cellTest 0 size ≡ true)
+      → (each cell_test 0 size ≡ true)
       ↔ (((p : ℕ) → p < n → used (get_or xs p d) ≡ true) × ((p : ℕ) → n ≤ p → unused (get_or xs p d) ≡ true))
   cells_say all few absent = (
     λ t. (
-      λ p h. rw (lt-ltb p n h) at (each-says cellTest 0 size p t (omega arith) (omega arith)),
+      λ p h. rw (lt-ltb p n h) at (each_says cell_test 0 size p t (omega arith) (omega arith)),
       λ p h.
           ⊎_elim
-          (λ l. rw (le-ltb p n h) at (each-says cellTest 0 size p t (omega arith) l))
+          (λ l. rw (le-ltb p n h) at (each_says cell_test 0 size p t (omega arith) l))
           (λ l. rw (get_or-eq_default xs d {n = p} (omega arith)) absent)
           (below_or_not p size),
     ),
-    λ says. each-said cellTest 0 size (λ p l h.
+    λ says. each_said cell_test 0 size (λ p l h.
         ⊎_elim
-        (λ in_use. rw (lt-ltb p n in_use) (says.0 p in_use))
+        (λ length_in_use. rw (lt-ltb p n length_in_use) (says.0 p length_in_use))
         (λ not-in-use. rw (le-ltb p n not-in-use) (says.1 p not-in-use))
         (below_or_not p n)),
   )

@@ -15,7 +15,7 @@ use Rattle.meaning.proofs.OperationLaws.{distinct_member}
 use Rattle.text.specs.Tokens.{next_token, is_name, well_formed}
 use Rattle.text.specs.declared.tokens.Token.{Token}
 use Rattle.text.specs.declared.tokens.Token.TheVariants as T
-use Rattle.text.proofs.Reading.{name-reaches}
+use Rattle.text.proofs.Reading.{name_reaches}
 use Rattle.table.specs.Promises.{Limited}
 
 -- a token that is a name has a number of bytes
@@ -39,11 +39,11 @@ well_formed_short n h =
     let (front, whole) = (and-eq-true_iff (is_name r.token && eqb r.start 0) (eqb r.used (length n))).0 h in
     let (is_name, at_front) = (and-eq-true_iff (is_name r.token) (eqb r.start 0)).0 front in
     let (m, token) = name_bytes r.token is_name in
-    omega (arith, name-reaches n m token, eqb-true r.start 0 at_front, eqb-true r.used (length n) whole)
+    omega (arith, name_reaches n m token, eqb-true r.start 0 at_front, eqb-true r.used (length n) whole)
 
 module _ (e : Expr) (limits : Limited e) where
-  pub distinct-well-formed : (n : Name) → Memᴰ n (distinct (names e)) → well_formed n ≡ true
-  distinct-well-formed n m = limits.well_formed n (distinct_member (names e) n m)
+  pub distinct_well_formed : (n : Name) → Memᴰ n (distinct (names e)) → well_formed n ≡ true
+  distinct_well_formed n m = limits.well_formed n (distinct_member (names e) n m)
 
-  pub distinct-short : (n : Name) → Memᴰ n (distinct (names e)) → length n ≤ 16
-  distinct-short n m = well_formed_short n (distinct-well-formed n m)
+  pub distinct_short : (n : Name) → Memᴰ n (distinct (names e)) → length n ≤ 16
+  distinct_short n m = well_formed_short n (distinct_well_formed n m)

@@ -21,38 +21,38 @@ use Rattle.table.specs.Marks.{among, none_twice, mark_of}
 use Rattle.table.specs.Rules.{operations_of, table_of}
 use Rattle.table.specs.Promises.{MarkSays}
 use Rattle.table.proofs.NameNumbers.{length_operations, operation_at_told, operation_is_key}
-use Rattle.table.proofs.TableCells.{operations-in-use}
+use Rattle.table.proofs.TableCells.{operations_in_use}
 
 module _ (z : Operation) where
   -- an operation is among those of a list exactly if it stands at some place
-  among-at : (os : List Operation) (o : ℕ) → among os o ≡ true → (p : ℕ) × (p < length os) × ((get_or os p z).0 ≡ o)
+  among_at : (os : List Operation) (o : ℕ) → among os o ≡ true → (p : ℕ) × (p < length os) × ((get_or os p z).0 ≡ o)
   unfolding among
-  among-at [] o h = absurd (false≢true h)
-  among-at (x ∷ os) o h =
+  among_at [] o h = absurd (false≢true h)
+  among_at (x ∷ os) o h =
       ⊎_elim
       (λ here. (0, omega arith, eqb-true x.0 o here))
-      (λ there. let (p, l, e) = among-at os o there in (suc p, omega arith, e))
+      (λ there. let (p, l, e) = among_at os o there in (suc p, omega arith, e))
       ((either_true (eqb x.0 o) (among os o)).0 h)
 
-  at-among : (os : List Operation) (o p : ℕ) → p < length os → (get_or os p z).0 ≡ o → among os o ≡ true
+  at_among : (os : List Operation) (o p : ℕ) → p < length os → (get_or os p z).0 ≡ o → among os o ≡ true
   unfolding among
-  at-among [] o p l e = absurd (not-suc-le-zero l)
-  at-among (x ∷ os) o zero l e = (either_true (eqb x.0 o) (among os o)).1 (inl (eq-eqb x.0 o e))
-  at-among (x ∷ os) o (suc p) l e = (either_true (eqb x.0 o) (among os o)).1 (inr (at-among os o p (le_of_suc-le-suc l) e))
+  at_among [] o p l e = absurd (not-suc-le-zero l)
+  at_among (x ∷ os) o zero l e = (either_true (eqb x.0 o) (among os o)).1 (inl (eq-eqb x.0 o e))
+  at_among (x ∷ os) o (suc p) l e = (either_true (eqb x.0 o) (among os o)).1 (inr (at_among os o p (le_of_suc-le-suc l) e))
 
   -- equal operations stand at equal places
   abbrev Apart : List Operation → Type 0
   Apart os = (p q : ℕ) → p < length os → q < length os → (get_or os p z).0 ≡ (get_or os q z).0 → p ≡ q
 
-  none-twice-apart : (os : List Operation) → none_twice os ≡ true → Apart os
+  none_twice_apart : (os : List Operation) → none_twice os ≡ true → Apart os
   unfolding none_twice
-  none-twice-apart [] h p q l m e = absurd (not-suc-le-zero l)
-  none-twice-apart (x ∷ os) h p q l m e =
+  none_twice_apart [] h p q l m e = absurd (not-suc-le-zero l)
+  none_twice_apart (x ∷ os) h p q l m e =
       let (alone, rest) = (and-eq-true_iff (not (among os x.0)) (none_twice os)).0 h in
-      go (none-twice-apart os rest) (not-true (among os x.0) alone) p q l m e
+      go (none_twice_apart os rest) (not-true (among os x.0) alone) p q l m e
     where
       again : among os x.0 ≡ false → (r : ℕ) → r < length os → (get_or os r z).0 ≡ x.0 → ⊥
-      again new r l e = false≢true (sym new ∙ at-among os x.0 r l e)
+      again new r l e = false≢true (sym new ∙ at_among os x.0 r l e)
 
       go : Apart os → among os x.0 ≡ false → Apart (x ∷ os)
       go below new zero zero l m e = refl
@@ -60,16 +60,16 @@ module _ (z : Operation) where
       go below new (suc p) zero l m e = absurd (again new p (le_of_suc-le-suc l) e)
       go below new (suc p) (suc q) l m e = ap suc (below p q (le_of_suc-le-suc l) (le_of_suc-le-suc m) e)
 
-  apart-none-twice : (os : List Operation) → Apart os → none_twice os ≡ true
+  apart_none_twice : (os : List Operation) → Apart os → none_twice os ≡ true
   unfolding none_twice
-  apart-none-twice [] apart = refl
-  apart-none-twice (x ∷ os) apart =
+  apart_none_twice [] apart = refl
+  apart_none_twice (x ∷ os) apart =
       (and-eq-true_iff (not (among os x.0)) (none_twice os)).1
-      (new (among os x.0) refl, apart-none-twice os (λ p q l m e. omega (arith, apart (suc p) (suc q) (omega arith) (omega arith) e)))
+      (new (among os x.0) refl, apart_none_twice os (λ p q l m e. omega (arith, apart (suc p) (suc q) (omega arith) (omega arith) e)))
     where
       new : (t : Bool) → among os x.0 ≡ t → not t ≡ true
       new true again =
-          let (p, l, e) = among-at os x.0 again in
+          let (p, l, e) = among_at os x.0 again in
           absurd (omega (arith, apart 0 (suc p) (omega arith) (omega arith) (sym e)))
       new false h = refl
 
@@ -80,7 +80,7 @@ mark_true false = (λ h. absurd (omega arith), λ h. absurd (false≢true h))
 
 mark_of_table : (e : Expr) → (table_of e).mark ≡ cond (none_twice (operations_of (distinct (names e)) (names e))) 1 0
 unfolding table_of mark_of
-mark_of_table e = ap (λ (os : List Operation). cond (none_twice os) 1 0) (operations-in-use e)
+mark_of_table e = ap (λ (os : List Operation). cond (none_twice os) 1 0) (operations_in_use e)
 
 -- operations of names are equal exactly where the keys are
 same_operation : (ns : List Name) (z : Operation) (p q : ℕ) → p < length ns → q < length ns
@@ -97,6 +97,6 @@ mark_says e limits =
     let as_many = length_operations (distinct ns) ns in
     let test = mark_true (none_twice os) in
     rw (mark_of_table e, size_names e) (
-      λ h p q l m keys. none-twice-apart z os (test.0 h) p q (rw as_many l) (rw as_many m) ((same_operation ns z p q l m).1 keys),
-      λ h. test.1 (apart-none-twice z os (rw as_many (λ p q l m same. h p q l m ((same_operation ns z p q l m).0 same)))),
+      λ h p q l m keys. none_twice_apart z os (test.0 h) p q (rw as_many l) (rw as_many m) ((same_operation ns z p q l m).1 keys),
+      λ h. test.1 (apart_none_twice z os (rw as_many (λ p q l m same. h p q l m ((same_operation ns z p q l m).0 same)))),
     )

@@ -43,22 +43,22 @@ module _ (t : Table) (sound : Sound t) where
       let last = spelled (t.names - 1) (omega (arith, sound.names_some)) in
       length-take-le t.names ns (omega arith)
 
-  name-spelled : (o : ℕ) → o < t.names → get_or (names_of t) o [] ≡ spelling t o
+  name_spelled : (o : ℕ) → o < t.names → get_or (names_of t) o [] ≡ spelling t o
   unfolding names_of
-  name-spelled o h = get_or-take t.names ns o [] h
+  name_spelled o h = get_or-take t.names ns o [] h
 
-  name-known : (o : ℕ) → o < t.names → holds (names_of t) (name_in t o) ≡ true
-  name-known o h = at_held (names_of t) (name_in t o) o (omega (arith, all_named)) refl
+  name_known : (o : ℕ) → o < t.names → holds (names_of t) (name_in t o) ≡ true
+  name_known o h = at_held (names_of t) (name_in t o) o (omega (arith, all_named)) refl
 
-  own-number : (o : ℕ) → o < t.names → number_of (names_of t) (name_in t o) ≡ o
-  own-number o h =
+  own_number : (o : ℕ) → o < t.names → number_of (names_of t) (name_in t o) ≡ o
+  own_number o h =
       let k = name_in t o in
-      let below = held_below (names_of t) k (name-known o h) in
+      let below = held_below (names_of t) k (name_known o h) in
       let number = number_of (names_of t) k in
       let there : number < t.names = omega (arith, below, all_named) in
       sound.names_distinct number o there h
-      (ap key (sym (name-spelled number there)) ∙ number_held (names_of t) k (name-known o h) ∙ ap key (name-spelled o h))
+      (ap key (sym (name_spelled number there)) ∙ number_held (names_of t) k (name_known o h) ∙ ap key (name_spelled o h))
 
-  pub permission-named : (o : ℕ) → o < t.names → permission_of t (name_in t o) ≡ permission_set t o
+  pub permission_named : (o : ℕ) → o < t.names → permission_of t (name_in t o) ≡ permission_set t o
   unfolding permission_of found_in
-  permission-named o h = rw (name-known o h, own-number o h)
+  permission_named o h = rw (name_known o h, own_number o h)

@@ -16,28 +16,28 @@ module _ {A : Type 0} where
   copies_at (suc m) z (suc i) = copies_at m z i
 
   -- so behind a list they read as nothing does
-  copies-behind-at : (xs : List A) (m : ℕ) (z : A) (i : ℕ) → get_or (xs ++ replicate m z) i z ≡ get_or xs i z
-  copies-behind-at [] m z i = copies_at m z i
-  copies-behind-at (x ∷ xs) m z zero = refl
-  copies-behind-at (x ∷ xs) m z (suc i) = copies-behind-at xs m z i
+  copies_behind_at : (xs : List A) (m : ℕ) (z : A) (i : ℕ) → get_or (xs ++ replicate m z) i z ≡ get_or xs i z
+  copies_behind_at [] m z i = copies_at m z i
+  copies_behind_at (x ∷ xs) m z zero = refl
+  copies_behind_at (x ∷ xs) m z (suc i) = copies_behind_at xs m z i
 
-  pub length-padded : (n : ℕ) (z : A) (xs : List A) → length xs ≤ n → length (padded n z xs) ≡ n
+  pub length_padded : (n : ℕ) (z : A) (xs : List A) → length xs ≤ n → length (padded n z xs) ≡ n
   unfolding padded
-  length-padded n z xs h =
+  length_padded n z xs h =
       omega (arith, length-append xs (replicate (n - length xs) z), length-replicate (n - length xs) z)
 
-  pub padded-at : (n : ℕ) (z : A) (xs : List A) (i : ℕ) → get_or (padded n z xs) i z ≡ get_or xs i z
+  pub padded_at : (n : ℕ) (z : A) (xs : List A) (i : ℕ) → get_or (padded n z xs) i z ≡ get_or xs i z
   unfolding padded
-  padded-at n z xs i = copies-behind-at xs (n - length xs) z i
+  padded_at n z xs i = copies_behind_at xs (n - length xs) z i
 
-  pub take-padded : (n : ℕ) (z : A) (xs : List A) → take (length xs) (padded n z xs) ≡ xs
+  pub take_padded : (n : ℕ) (z : A) (xs : List A) → take (length xs) (padded n z xs) ≡ xs
   unfolding padded
-  take-padded n z xs = take-append_seam xs (replicate (n - length xs) z)
+  take_padded n z xs = take-append_seam xs (replicate (n - length xs) z)
 
   -- the first cell of the padding holds the next element
-  pub padded-snoc : (n : ℕ) (z v : A) (xs : List A) → length xs < n → set (padded n z xs) (length xs) v ≡ padded n z (xs ++ v ∷ [])
+  pub padded_snoc : (n : ℕ) (z v : A) (xs : List A) → length xs < n → set (padded n z xs) (length xs) v ≡ padded n z (xs ++ v ∷ [])
   unfolding padded
-  padded-snoc n z v xs h =
+  padded_snoc n z v xs h =
       let more : n - length xs ≡ suc (n - suc (length xs)) = omega arith in
       let fewer : n - length (xs ++ v ∷ []) ≡ n - suc (length xs) = omega (arith, length-append xs (v ∷ [])) in
       rw (more, fewer, append_snoc, set-append_seam)

@@ -19,42 +19,42 @@ test_failed {r} e h = sym e ∙ not-true r h
 
 module _ (test : ℕ → Bool) where
   module _ (p to : ℕ) (h : p < to) where
-    first-and-others : each test p to ≡ test p && each test (p + 1) to
+    first_and_others : each test p to ≡ test p && each test (p + 1) to
     unfolding passing
-    first-and-others =
+    first_and_others =
         let count : to - p ≡ suc (to - (p + 1)) = omega arith in
         rw (count, add-one p)
 
     pub one_passes : test p ≡ true → each test p to ≡ each test (p + 1) to
-    one_passes e = rw (first-and-others, e)
+    one_passes e = rw (first_and_others, e)
 
-    pub one-fails : test p ≡ false → each test p to ≡ false
-    one-fails e = rw (first-and-others, e)
+    pub one_fails : test p ≡ false → each test p to ≡ false
+    one_fails e = rw (first_and_others, e)
 
-  pub all-passed : (p to : ℕ) → to ≤ p → each test p to ≡ true
+  pub all_passed : (p to : ℕ) → to ≤ p → each test p to ≡ true
   unfolding passing
-  all-passed p to h =
+  all_passed p to h =
       let none : to - p ≡ 0 = omega arith in
       rw none
 
-  passing-each : (k from p : ℕ) → passing test from k ≡ true → from ≤ p → p < from + k → test p ≡ true
+  passing_each : (k from p : ℕ) → passing test from k ≡ true → from ≤ p → p < from + k → test p ≡ true
   unfolding passing
-  passing-each zero from p t l h = absurd (omega arith)
-  passing-each (suc k) from p t l h =
+  passing_each zero from p t l h = absurd (omega arith)
+  passing_each (suc k) from p t l h =
       let both = (and-eq-true_iff (test from) (passing test (suc from) k)).0 t in
       ⊎_elim
-      (λ later. passing-each k (suc from) p both.1 later (omega arith))
+      (λ later. passing_each k (suc from) p both.1 later (omega arith))
       (λ first. let e : p ≡ from = omega arith in rw e both.0)
       (below_or_not from p)
 
-  each-passing : (k from : ℕ) → ((p : ℕ) → from ≤ p → p < from + k → test p ≡ true) → passing test from k ≡ true
+  each_passing : (k from : ℕ) → ((p : ℕ) → from ≤ p → p < from + k → test p ≡ true) → passing test from k ≡ true
   unfolding passing
-  each-passing zero from t = refl
-  each-passing (suc k) from t =
-      rw (t from (omega arith) (omega arith)) (each-passing k (suc from) (λ p l h. t p (omega arith) (omega arith)))
+  each_passing zero from t = refl
+  each_passing (suc k) from t =
+      rw (t from (omega arith) (omega arith)) (each_passing k (suc from) (λ p l h. t p (omega arith) (omega arith)))
 
-  pub each-says : (from to p : ℕ) → each test from to ≡ true → from ≤ p → p < to → test p ≡ true
-  each-says from to p t l h = passing-each (to - from) from p t l (omega arith)
+  pub each_says : (from to p : ℕ) → each test from to ≡ true → from ≤ p → p < to → test p ≡ true
+  each_says from to p t l h = passing_each (to - from) from p t l (omega arith)
 
-  pub each-said : (from to : ℕ) → ((p : ℕ) → from ≤ p → p < to → test p ≡ true) → each test from to ≡ true
-  each-said from to t = each-passing (to - from) from (λ p l h. t p l (omega arith))
+  pub each_said : (from to : ℕ) → ((p : ℕ) → from ≤ p → p < to → test p ≡ true) → each test from to ≡ true
+  each_said from to t = each_passing (to - from) from (λ p l h. t p l (omega arith))

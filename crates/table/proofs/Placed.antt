@@ -16,7 +16,7 @@ use Rattle.meaning.specs.Sets.{mem, In}
 use Rattle.meaning.proofs.SetLaws.{none_in, in_single, in_union, in_shared, same_sets, union_assoc, in_below}
 use Rattle.table.specs.declared.numbers.Operation.{Operation}
 use Rattle.table.specs.Tests.{placed_in}
-use Rattle.table.proofs.Repeats.{here-and-behind, nothing-from-here}
+use Rattle.table.proofs.Repeats.{here_and_behind, nothing_from_here}
 
 -- bit o, as the program shifts it
 pub bit_shifted : (o : ℕ) → o < 64 → 1 * 2 ^ o % 18446744073709551616 ≡ 2 ^ o
@@ -43,14 +43,14 @@ abbrev pub Gathered : List Operation → ℕ → ℕ → ℕ → Type 0
 Gathered operations n p out = placed_in (take n operations) ≡ bit_or out (placed_in (drop p (take n operations)))
 
 module _ (operations : List Operation) (n p out : ℕ) (i : Gathered operations n p out) where
-  pub one-more-gathered : length operations ≡ 64 → n ≤ 64 → p < n
+  pub one_more_gathered : length operations ≡ 64 → n ≤ 64 → p < n
       → Gathered operations n (p + 1) (bit_or out (2 ^ (get_or operations p (record { 0 = 0 })).0))
   unfolding placed_in
-  one-more-gathered all few used = i ∙ rw (here-and-behind operations n p all few used) (sym (union_assoc out _ _))
+  one_more_gathered all few used = i ∙ rw (here_and_behind operations n p all few used) (sym (union_assoc out _ _))
 
-  pub all-gathered : n ≤ p → out ≡ placed_in (take n operations)
+  pub all_gathered : n ≤ p → out ≡ placed_in (take n operations)
   unfolding placed_in
-  all-gathered past = sym (i ∙ rw (nothing-from-here operations n p past, or_zero_r out))
+  all_gathered past = sym (i ∙ rw (nothing_from_here operations n p past, or_zero_r out))
 
 -- the set of the first k has all below k
 in_first : (k p : ℕ) → p < k → In p (2 ^ k - 1)

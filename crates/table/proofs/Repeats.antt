@@ -17,43 +17,43 @@ module _ (operations : List Operation) (n p : ℕ) where
   abbrev here : Operation
   here = get_or operations p (record { 0 = 0 })
 
-  abbrev from-here : List Operation
-  from-here = drop p (take n operations)
+  abbrev from_here : List Operation
+  from_here = drop p (take n operations)
 
   abbrev behind : List Operation
   behind = drop (p + 1) (take n operations)
 
   module _ (all : length operations ≡ 64) (few : n ≤ 64) (used : p < n) where
-    pub here-and-behind : from-here ≡ here ∷ behind
-    here-and-behind =
+    pub here_and_behind : from_here ≡ here ∷ behind
+    here_and_behind =
         let there : p < length (take n operations) = omega (arith, length-take-le n operations (omega arith)) in
         rw (add-one p, drop-cons (take n operations) p (record { 0 = 0 }) there, get_or-take n operations p (record { 0 = 0 }) used)
 
     module _ (o : ℕ) where
-      pub stands_here : here.0 ≡ o → among from-here o ≡ true
+      pub stands_here : here.0 ≡ o → among from_here o ≡ true
       unfolding among
-      stands_here e = rw (here-and-behind, eq-eqb here.0 o e)
+      stands_here e = rw (here_and_behind, eq-eqb here.0 o e)
 
-      pub stands-behind : (here.0 ≡ o → ⊥) → among from-here o ≡ among behind o
+      pub stands_behind : (here.0 ≡ o → ⊥) → among from_here o ≡ among behind o
       unfolding among
-      stands-behind e = rw (here-and-behind, ne_eqb here.0 o e)
+      stands_behind e = rw (here_and_behind, ne_eqb here.0 o e)
 
-    pub twice-here : among behind here.0 ≡ true → none_twice from-here ≡ false
+    pub twice_here : among behind here.0 ≡ true → none_twice from_here ≡ false
     unfolding none_twice
-    twice-here e = rw (here-and-behind, e)
+    twice_here e = rw (here_and_behind, e)
 
-    pub twice-behind : among behind here.0 ≡ false → none_twice from-here ≡ none_twice behind
+    pub twice_behind : among behind here.0 ≡ false → none_twice from_here ≡ none_twice behind
     unfolding none_twice
-    twice-behind e = rw (here-and-behind, e)
+    twice_behind e = rw (here_and_behind, e)
 
   module _ (past : n ≤ p) where
-    pub nothing-from-here : from-here ≡ []
-    nothing-from-here = drop_of_length-le (take n operations) {i = p} (omega (arith, length-take n operations))
+    pub nothing_from_here : from_here ≡ []
+    nothing_from_here = drop_of_length-le (take n operations) {i = p} (omega (arith, length-take n operations))
 
-    pub stands-nowhere : (o : ℕ) → among from-here o ≡ false
+    pub stands_nowhere : (o : ℕ) → among from_here o ≡ false
     unfolding among
-    stands-nowhere o = rw nothing-from-here
+    stands_nowhere o = rw nothing_from_here
 
-    pub twice-nowhere : none_twice from-here ≡ true
+    pub twice_nowhere : none_twice from_here ≡ true
     unfolding none_twice
-    twice-nowhere = rw nothing-from-here
+    twice_nowhere = rw nothing_from_here

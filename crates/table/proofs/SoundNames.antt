@@ -13,9 +13,9 @@ use Rattle.meaning.proofs.SetLaws.{below_or_not}
 use Rattle.text.specs.Tokens.{well_formed}
 use Rattle.table.specs.Cells.{spellings}
 use Rattle.table.specs.Tests.{name_at_test, names_test}
-use Rattle.table.proofs.Distinct.{Distinct, new-distinct, distinct-new}
-use Rattle.table.proofs.FreshNames.{NameSays, fresh_says, name-says}
-use Rattle.table.proofs.Passing.{each-says, each-said}
+use Rattle.table.proofs.Distinct.{Distinct, new_distinct, distinct_new}
+use Rattle.table.proofs.FreshNames.{NameSays, fresh_says, name_says}
+use Rattle.table.proofs.Passing.{each_says, each_said}
 use Rattle.table.proofs.Spellings.{length_spellings}
 
 module _ (names : ℕ) (lengths bytes : List ℕ) where
@@ -38,16 +38,16 @@ module _ (names : ℕ) (lengths bytes : List ℕ) where
 
     said_of : names_test names lengths bytes ≡ true → (i : ℕ) → i < 32 → NameSays names lengths bytes i
     said_of t i h =
-        (name-says names lengths bytes i (omega arith)).0 (each-says (name_at_test names lengths bytes) 0 32 i t (omega arith) h)
+        (name_says names lengths bytes i (omega arith)).0 (each_says (name_at_test names lengths bytes) 0 32 i t (omega arith) h)
 
     fresh : names_test names lengths bytes ≡ true → (i : ℕ) → i < names
         → (well_formed (get_or ns i []) ≡ true) × (holds (take i ns) (key (get_or ns i [])) ≡ false)
     fresh t i h = (fresh_says (get_or ns i []) (take i ns)).0 ((said_of t i (omega arith)).fresh h)
 
-    pub tested-names-sound : names_test names lengths bytes ≡ true → NamesSound
-    tested-names-sound t =
+    pub tested_names_sound : names_test names lengths bytes ≡ true → NamesSound
+    tested_names_sound t =
         record {
-          distinct = new-distinct names ns (omega (arith, spelled)) (λ j h. (fresh t j h).1);
+          distinct = new_distinct names ns (omega (arith, spelled)) (λ j h. (fresh t j h).1);
           well_formed = λ i h. ((said_of t i (omega arith)).short, (fresh t i h).0);
           unused_lengths = λ i h.
               ⊎_elim
@@ -61,13 +61,13 @@ module _ (names : ℕ) (lengths bytes : List ℕ) where
               (below_or_not i 32);
         }
 
-    name-of-sound : NamesSound → (i : ℕ) → NameSays names lengths bytes i
-    name-of-sound s i =
+    name_of_sound : NamesSound → (i : ℕ) → NameSays names lengths bytes i
+    name_of_sound s i =
         record {
           short = ⊎_elim (λ h. (s.well_formed i h).0) (λ h. omega (arith, s.unused_lengths i h)) (below_or_not i names);
           fresh = λ h. (fresh_says (get_or ns i []) (take i ns)).1 (
             (s.well_formed i h).1,
-            distinct-new names ns (omega (arith, spelled)) s.distinct i h,
+            distinct_new names ns (omega (arith, spelled)) s.distinct i h,
           );
           unused = s.unused_lengths i;
           zeros = λ k l h.
@@ -75,7 +75,7 @@ module _ (names : ℕ) (lengths bytes : List ℕ) where
               rw place at (s.unused_bytes i (k - 16 * i) (omega arith) (omega arith));
         }
 
-    pub sound-names-tested : NamesSound → names_test names lengths bytes ≡ true
-    sound-names-tested s =
-        each-said (name_at_test names lengths bytes) 0 32
-        (λ i l h. (name-says names lengths bytes i (omega arith)).1 (name-of-sound s i))
+    pub sound_names_tested : NamesSound → names_test names lengths bytes ≡ true
+    sound_names_tested s =
+        each_said (name_at_test names lengths bytes) 0 32
+        (λ i l h. (name_says names lengths bytes i (omega arith)).1 (name_of_sound s i))

@@ -9,8 +9,8 @@ use Rattle.table.specs.declared.cells.Table.{Table}
 use Rattle.table.specs.Marks.{mark_of}
 use Rattle.table.specs.Soundness.{Fit, Sound}
 use Rattle.table.specs.Tests.{counts_test, operations_test, each_placed_test, fit_test, rows_test, names_test, sound_test}
-use Rattle.table.proofs.SoundNames.{tested-names-sound, sound-names-tested}
-use Rattle.table.proofs.SoundOperations.{operations-say, each-placed-says}
+use Rattle.table.proofs.SoundNames.{tested_names_sound, sound_names_tested}
+use Rattle.table.proofs.SoundOperations.{operations_say, each_placed_says}
 use Rattle.table.proofs.SoundSets.{FitsIn, fit_says, rows_say}
 use Rattle.table.proofs.Whole.{Whole}
 
@@ -85,16 +85,16 @@ tested_sound : (t : Table) → Whole t → Tested t → Sound t
 tested_sound t w h =
     let c = counts_say t.positions t.names h.counts in
     let few = c.positions_most in
-    let operations = (operations-say t.operations t.positions t.names w.operations few).0 h.operations in
+    let operations = (operations_say t.operations t.positions t.names w.operations few).0 h.operations in
     let rows = (rows_say t.rows t.positions w.rows few).0 h.rows in
-    let names = tested-names-sound t.names t.lengths t.bytes w.lengths w.bytes c.names_most h.names in
+    let names = tested_names_sound t.names t.lengths t.bytes w.lengths w.bytes c.names_most h.names in
     record {
       positions_some = c.positions_some;
       positions_most = few;
       names_some = c.names_some;
       names_most = c.names_most;
       operations_exist = operations.0;
-      operations_placed = (each-placed-says t.operations t.positions t.names w.operations few).0 h.placed;
+      operations_placed = (each_placed_says t.operations t.positions t.names w.operations few).0 h.placed;
       start_fits = fits_in_fit t _ ((fit_says t.start t.positions).0 h.start);
       rows_fit = λ p l. fits_in_fit t _ (rows.0 p l);
       names_distinct = names.distinct;
@@ -111,12 +111,12 @@ sound_tested t w s =
     let few = s.positions_most in
     record {
       counts = rw (le-leb _ _ s.positions_some, le-leb _ _ few, le-leb _ _ s.names_some, le-leb _ _ s.names_most);
-      operations = (operations-say t.operations t.positions t.names w.operations few).1
+      operations = (operations_say t.operations t.positions t.names w.operations few).1
           (s.operations_exist, s.unused_operations);
-      placed = (each-placed-says t.operations t.positions t.names w.operations few).1 s.operations_placed;
+      placed = (each_placed_says t.operations t.positions t.names w.operations few).1 s.operations_placed;
       start = (fit_says t.start t.positions).1 (fit_fits_in t _ s.start_fits);
       rows = (rows_say t.rows t.positions w.rows few).1 (λ p l. fit_fits_in t _ (s.rows_fit p l), s.unused_rows);
-      names = sound-names-tested t.names t.lengths t.bytes w.lengths w.bytes s.names_most
+      names = sound_names_tested t.names t.lengths t.bytes w.lengths w.bytes s.names_most
           (record {
             distinct = s.names_distinct;
             well_formed = s.names_well_formed;

@@ -24,7 +24,7 @@ use Rattle.table.specs.Rules.{padded, operations_of, table_of}
 use Rattle.table.specs.Promises.{Limited, RulesTablePermits}
 use Rattle.table.proofs.NameNumbers.{length_operations, operation_is_key}
 use Rattle.table.proofs.PositionSets.{in_positions_with}
-use Rattle.table.proofs.TableCells.{operations-in-use, names-of-table}
+use Rattle.table.proofs.TableCells.{operations_in_use, names_of_table}
 
 -- what is permitted depends on the unions of rows and on the permission sets only
 permits_agree : (rs qs : List ℕ) (f g : Name → ℕ) → ((s : ℕ) → union_of rs s ≡ union_of qs s) → ((k : Name) → f k ≡ g k)
@@ -55,9 +55,9 @@ union_of_padded n rs s = union_of_behind rs (n - length rs) s
 
 module _ (e : Expr) where
   -- a position has the number of a held key exactly if it has the key
-  in-permission-by-number : (k : Name) → holds (distinct (names e)) k ≡ true → (p : ℕ)
+  in_permission_by_number : (k : Name) → holds (distinct (names e)) k ≡ true → (p : ℕ)
       → In p (positions_with (operations_of (distinct (names e)) (names e)) (number_of (distinct (names e)) k)) ↔ In p (permission e k)
-  in-permission-by-number k held p =
+  in_permission_by_number k held p =
       let ns = names e in
       let as_many = length_operations (distinct ns) ns in
       let numbered = in_positions_with (operations_of (distinct ns) ns) (record { 0 = 0 }) (number_of (distinct ns) k) p in
@@ -68,8 +68,8 @@ module _ (e : Expr) where
       )
 
   -- a key that is not held has no position
-  permission-of-none : (k : Name) → holds (distinct (names e)) k ≡ false → permission e k ≡ 0
-  permission-of-none k unheld =
+  permission_of_none : (k : Name) → holds (distinct (names e)) k ≡ false → permission e k ≡ 0
+  permission_of_none k unheld =
       same_sets (permission e k) 0 (λ p. (
         λ h.
             let (inside, same_key) = ((numbered_from_the_left e).from_the_left p k).0 h in
@@ -77,19 +77,19 @@ module _ (e : Expr) where
         none_in p,
       ))
 
-  permission-agrees : Limited e → (k : Name) → permission_of (table_of e) k ≡ permission e k
+  permission_agrees : Limited e → (k : Name) → permission_of (table_of e) k ≡ permission e k
   unfolding permission_of found_in permission_set
-  permission-agrees limits k = rw (names-of-table e limits) (go (holds (distinct (names e)) k) refl)
+  permission_agrees limits k = rw (names_of_table e limits) (go (holds (distinct (names e)) k) refl)
     where
       go : (t : Bool) → holds (distinct (names e)) k ≡ t
           → permission_found (table_of e) (cond t (At (record { 0 = number_of (distinct (names e)) k })) Nowhere) ≡ permission e k
-      go true held = rw (operations-in-use e) (same_sets _ (permission e k) (in-permission-by-number k held))
-      go false unheld = sym (permission-of-none k unheld)
+      go true held = rw (operations_in_use e) (same_sets _ (permission e k) (in_permission_by_number k held))
+      go false unheld = sym (permission_of_none k unheld)
 
 pub rules_table_permits : RulesTablePermits
 unfolding table_permits table_of
 rules_table_permits e limits h =
     let t = table_of e in
     let agree = permits_agree t.rows (rows e) (permission_of t) (permission e) (union_of_padded 64 (rows e))
-    (permission-agrees e limits) in
+    (permission_agrees e limits) in
     rw (agree (start e) h) (permits_begins e h)

@@ -16,13 +16,13 @@ abbrev pub Uniting : List ℕ → ℕ → ℕ → ℕ → ℕ → Type 0
 Uniting rows whole out rest p = (p ≤ length rows) × (whole ≡ bit_or out (union_of (drop p rows) rest))
 
 module _ (rows : List ℕ) (whole out rest p : ℕ) (i : Uniting rows whole out rest p) where
-  pub turn-united : (out' : ℕ) → p < length rows → out' ≡ bit_or out (cond (mem 0 rest) (get_or rows p 0) 0)
+  pub turn_united : (out' : ℕ) → p < length rows → out' ≡ bit_or out (cond (mem 0 rest) (get_or rows p 0) 0)
       → Uniting rows whole out' (rest / 2) (p + 1)
   unfolding union_of
-  turn-united out' h e =
+  turn_united out' h e =
       let row = cond (mem 0 rest) (get_or rows p 0) 0 in
       (omega arith, i.1 ∙ rw (e, add-one p, drop-cons rows p 0 h) (sym (union_assoc out row _)))
 
-  pub all-united : length rows ≤ p → out ≡ whole
+  pub all_united : length rows ≤ p → out ≡ whole
   unfolding union_of
-  all-united h = rw (i.1, drop_of_length-le rows h, or_zero_r out)
+  all_united h = rw (i.1, drop_of_length-le rows h, or_zero_r out)

@@ -128,40 +128,40 @@ from_named k (b ∷ s) n e = moved_named k (b ∷ s) (token_from k (b ∷ s)) n 
 
 -- of the text itself: k is the number of its blanks, and what is left is all behind them
 module _ (s : List ℕ) where
-  pub start-is-blanks : (next_token s).start ≡ span blank_byte s
+  pub start_is_blanks : (next_token s).start ≡ span blank_byte s
   unfolding next_token
-  start-is-blanks = from_start (span blank_byte s) (drop (span blank_byte s) s)
+  start_is_blanks = from_start (span blank_byte s) (drop (span blank_byte s) s)
 
-  pub start-within-used : (next_token s).start ≤ (next_token s).used
+  pub start_within_used : (next_token s).start ≤ (next_token s).used
   unfolding next_token
-  start-within-used = from_forward (span blank_byte s) (drop (span blank_byte s) s)
+  start_within_used = from_forward (span blank_byte s) (drop (span blank_byte s) s)
 
-  pub used-within-text : (next_token s).used ≤ length s
+  pub used_within_text : (next_token s).used ≤ length s
   unfolding next_token
-  used-within-text =
+  used_within_text =
       let k = span blank_byte s in
       omega (arith, from_within k (drop k s), length-drop k s, span_within blank_byte s)
 
-  pub token-moves-on : ((next_token s).token ≡ TextEnd → ⊥) → (next_token s).start < (next_token s).used
+  pub token_moves_on : ((next_token s).token ≡ TextEnd → ⊥) → (next_token s).start < (next_token s).used
   unfolding next_token
-  token-moves-on h = from_moves (span blank_byte s) (drop (span blank_byte s) s) h
+  token_moves_on h = from_moves (span blank_byte s) (drop (span blank_byte s) s) h
 
   -- nothing is left: the text is used up
-  pub nothing-uses-all : (next_token s).token ≡ TextEnd → (next_token s).used ≡ length s
+  pub nothing_uses_all : (next_token s).token ≡ TextEnd → (next_token s).used ≡ length s
   unfolding next_token
-  nothing-uses-all e =
+  nothing_uses_all e =
       let k = span blank_byte s in
       let empty = ap length (from_ends k (drop k s) e) in
       omega (arith, length-drop k s, span_within blank_byte s, from_within k (drop k s), from_forward k (drop k s), from_start k (drop k s))
 
   -- and nothing but blanks was left
-  pub end-starts-last : (next_token s).token ≡ TextEnd → (next_token s).start ≡ length s
+  pub end_starts_last : (next_token s).token ≡ TextEnd → (next_token s).start ≡ length s
   unfolding next_token
-  end-starts-last e =
+  end_starts_last e =
       let k = span blank_byte s in
       let empty = ap length (from_ends k (drop k s) e) in
       omega (arith, length-drop k s, span_within blank_byte s, from_start k (drop k s))
 
-  pub name-reaches : (n : ℕ) → (next_token s).token ≡ Name n → Named (next_token s) n
+  pub name_reaches : (n : ℕ) → (next_token s).token ≡ Name n → Named (next_token s) n
   unfolding next_token
-  name-reaches n e = from_named (span blank_byte s) (drop (span blank_byte s) s) n e
+  name_reaches n e = from_named (span blank_byte s) (drop (span blank_byte s) s) n e

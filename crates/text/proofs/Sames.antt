@@ -15,19 +15,19 @@ pub lengths_differ_is_false : (a b : List ℕ) → (length a ≡ length b → �
 lengths_differ_is_false a b h = different_not_same a b (λ e. h (ap length e))
 
 module _ (a b : List ℕ) (i : ℕ) where
-  pub byte-differs-is-false : (get_or a i 0 ≡ get_or b i 0 → ⊥) → same a b ≡ false
-  byte-differs-is-false h = different_not_same a b (λ e. h (ap (λ (l : List ℕ). get_or l i 0) e))
+  pub byte_differs_is_false : (get_or a i 0 ≡ get_or b i 0 → ⊥) → same a b ≡ false
+  byte_differs_is_false h = different_not_same a b (λ e. h (ap (λ (l : List ℕ). get_or l i 0) e))
 
   -- equal bytes at place i: what is left to compare stands behind them
-  pub equal-bytes : i < length a → i < length b → get_or a i 0 ≡ get_or b i 0
+  pub equal_bytes : i < length a → i < length b → get_or a i 0 ≡ get_or b i 0
       → same (drop i a) (drop i b) ≡ same (drop (i + 1) a) (drop (i + 1) b)
   unfolding same
-  equal-bytes ha hb e = rw (add-one i, drop-cons a i 0 ha, drop-cons b i 0 hb, eq-eqb _ _ e)
+  equal_bytes ha hb e = rw (add-one i, drop-cons a i 0 ha, drop-cons b i 0 hb, eq-eqb _ _ e)
 
   -- other bytes at place i
-  pub other-bytes : i < length a → i < length b → (get_or a i 0 ≡ get_or b i 0 → ⊥) → same (drop i a) (drop i b) ≡ false
+  pub other_bytes : i < length a → i < length b → (get_or a i 0 ≡ get_or b i 0 → ⊥) → same (drop i a) (drop i b) ≡ false
   unfolding same
-  other-bytes ha hb h = rw (drop-cons a i 0 ha, drop-cons b i 0 hb, ne_eqb _ _ h)
+  other_bytes ha hb h = rw (drop-cons a i 0 ha, drop-cons b i 0 hb, ne_eqb _ _ h)
 
   -- nothing is left of either
   pub nothing_left : length a ≤ i → length b ≤ i → same (drop i a) (drop i b) ≡ true

@@ -16,9 +16,9 @@ module _ (test : ℕ → Bool) where
   unfolding span
   span_counts b s e = rw e
 
-  pub span-ends : (b : ℕ) (s : List ℕ) → test b ≡ false → span test (b ∷ s) ≡ 0
+  pub span_ends : (b : ℕ) (s : List ℕ) → test b ≡ false → span test (b ∷ s) ≡ 0
   unfolding span
-  span-ends b s e = rw e
+  span_ends b s e = rw e
 
   -- the first i bytes pass
   abbrev pub Passed : List ℕ → ℕ → Type 0
@@ -27,19 +27,19 @@ module _ (test : ℕ → Bool) where
   pub none_passed : (s : List ℕ) → Passed s 0
   none_passed s = omega arith
 
-  pub one-more-passed : (s : List ℕ) (i : ℕ) → i < length s → test (get_or s i 0) ≡ true → Passed s i → Passed s (i + 1)
-  one-more-passed s i h e p =
+  pub one_more_passed : (s : List ℕ) (i : ℕ) → i < length s → test (get_or s i 0) ≡ true → Passed s i → Passed s (i + 1)
+  one_more_passed s i h e p =
       let counted : span test (drop i s) ≡ suc (span test (drop (suc i) s)) = rw (drop-cons s i 0 h) (span_counts _ _ e) in
       rw (add-one i) (omega arith)
 
-  pub passed-to-failing : (s : List ℕ) (i : ℕ) → i < length s → test (get_or s i 0) ≡ false → Passed s i → i ≡ span test s
-  passed-to-failing s i h e p =
-      let ended : span test (drop i s) ≡ 0 = rw (drop-cons s i 0 h) (span-ends _ _ e) in
+  pub passed_to_failing : (s : List ℕ) (i : ℕ) → i < length s → test (get_or s i 0) ≡ false → Passed s i → i ≡ span test s
+  passed_to_failing s i h e p =
+      let ended : span test (drop i s) ≡ 0 = rw (drop-cons s i 0 h) (span_ends _ _ e) in
       omega arith
 
-  pub passed-to-end : (s : List ℕ) (i : ℕ) → length s ≤ i → Passed s i → i ≡ span test s
+  pub passed_to_end : (s : List ℕ) (i : ℕ) → length s ≤ i → Passed s i → i ≡ span test s
   unfolding span
-  passed-to-end s i h p =
+  passed_to_end s i h p =
       let ended : span test (drop i s) ≡ 0 = rw (drop_of_length-le s h) in
       omega arith
 

@@ -1,5 +1,5 @@
 -- The rule of a table, proved at all its entries by one test that antt computes: `agrees` goes through the table once and
--- compares each entry with the rule, and `entry-agrees` hands the outcome to each place.
+-- compares each entry with the rule, and `entry_agrees` hands the outcome to each place.
 use mathlib.Core.Path.{◌≡◌, ap, ◌∙◌}
 use mathlib.Core.Bool.{Bool, true, ◌&&◌, and-eq-true_iff}
 use mathlib.Core.List.{List, [], ◌∷◌}
@@ -24,5 +24,5 @@ module _ (rule : ℕ → ℕ) where
       from_place (suc i) xs k (le_of_suc-le-suc h) ((and-eq-true_iff (eqb x (rule i)) (agrees (suc i) xs)).0 e).1
       ∙ ap rule (omega arith)
 
-  pub entry-agrees : (xs : List ℕ) (k : ℕ) → k < length xs → agrees 0 xs ≡ true → get_or xs k 0 ≡ rule k
-  entry-agrees xs k h e = from_place 0 xs k h e ∙ ap rule (omega arith)
+  pub entry_agrees : (xs : List ℕ) (k : ℕ) → k < length xs → agrees 0 xs ≡ true → get_or xs k 0 ≡ rule k
+  entry_agrees xs k h e = from_place 0 xs k h e ∙ ap rule (omega arith)

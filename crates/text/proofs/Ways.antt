@@ -13,28 +13,28 @@ use Rattle.text.specs.declared.tokens.Token.TheVariants.{TextEnd}
 use Rattle.text.specs.declared.tokens.Read.{Read}
 
 module _ (s : List ℕ) (k : ℕ) (blanks : k ≡ span blank_byte s) where
-  behind-blanks : (rest : List ℕ) → rest ≡ drop k s → token_from k rest ≡ next_token s
+  behind_blanks : (rest : List ℕ) → rest ≡ drop k s → token_from k rest ≡ next_token s
   unfolding next_token
-  behind-blanks rest e = rw (← blanks, ← e)
+  behind_blanks rest e = rw (← blanks, ← e)
 
-  pub way-nothing : (rest : List ℕ) → rest ≡ drop k s → length rest ≡ 0
+  pub way_nothing : (rest : List ℕ) → rest ≡ drop k s → length rest ≡ 0
       → ◌≡◌ {A = Read} (record { token = TextEnd; start = k; used = k }) (next_token s)
   unfolding token_from
-  way-nothing [] e h = behind-blanks [] e
-  way-nothing (b ∷ r) e h = absurd (omega arith)
+  way_nothing [] e h = behind_blanks [] e
+  way_nothing (b ∷ r) e h = absurd (omega arith)
 
-  pub way-word : (rest : List ℕ) (c n : ℕ) (t : Token) → rest ≡ drop k s → 0 < length rest → c ≡ class_of (get_or rest 0 0)
+  pub way_word : (rest : List ℕ) (c n : ℕ) (t : Token) → rest ≡ drop k s → 0 < length rest → c ≡ class_of (get_or rest 0 0)
       → c ≡ letter → n ≡ span name_byte rest → t ≡ word_token (take n rest)
       → ◌≡◌ {A = Read} (record { token = t; start = k; used = k + n }) (next_token s)
   unfolding token_from
-  way-word [] c n t e h class is-letter counted word = absurd (omega arith)
-  way-word (b ∷ r) c n t e h class is-letter counted word =
-      rw (← (behind-blanks (b ∷ r) e), ← class, eq-eqb c letter is-letter, ← counted, word)
+  way_word [] c n t e h class is-letter counted word = absurd (omega arith)
+  way_word (b ∷ r) c n t e h class is-letter counted word =
+      rw (← (behind_blanks (b ∷ r) e), ← class, eq-eqb c letter is-letter, ← counted, word)
 
-  pub way-sign : (rest : List ℕ) (c : ℕ) (t : Token) → rest ≡ drop k s → 0 < length rest → c ≡ class_of (get_or rest 0 0)
+  pub way_sign : (rest : List ℕ) (c : ℕ) (t : Token) → rest ≡ drop k s → 0 < length rest → c ≡ class_of (get_or rest 0 0)
       → (c ≡ letter → ⊥) → t ≡ sign_token c
       → ◌≡◌ {A = Read} (record { token = t; start = k; used = k + 1 }) (next_token s)
   unfolding token_from
-  way-sign [] c t e h class no-letter sign = absurd (omega arith)
-  way-sign (b ∷ r) c t e h class no-letter sign =
-      rw (← (behind-blanks (b ∷ r) e), ← class, ne_eqb c letter no-letter, sign)
+  way_sign [] c t e h class no-letter sign = absurd (omega arith)
+  way_sign (b ∷ r) c t e h class no-letter sign =
+      rw (← (behind_blanks (b ∷ r) e), ← class, ne_eqb c letter no-letter, sign)

@@ -13,9 +13,9 @@ use lib.Seq.{length-take-le, take-length}
 use Rattle.text.specs.Classes.{letter, class_of}
 use Rattle.text.specs.Tokens.{span, blank_byte, name_byte, word_token, sign_token, word_read, token_from, next_token, is_name, well_formed}
 use Rattle.text.specs.declared.tokens.Token.TheVariants.{Name}
-use Rattle.text.proofs.Spans.{span_counts, span-ends, span_within}
-use Rattle.text.proofs.Ways.{way-word, way-sign}
-use Rattle.text.proofs.Reading.{sign_has, start-is-blanks, name-reaches}
+use Rattle.text.proofs.Spans.{span_counts, span_ends, span_within}
+use Rattle.text.proofs.Ways.{way_word, way_sign}
+use Rattle.text.proofs.Reading.{sign_has, start_is_blanks, name_reaches}
 
 -- a run is a run of its own bytes
 span_of_run : (test : ℕ → Bool) (s : List ℕ) → span test (take (span test s) s) ≡ span test s
@@ -36,8 +36,8 @@ letter_read : (b : ℕ) (r : List ℕ) → class_of b ≡ letter → next_token 
 letter_read b r starts =
     let w = b ∷ r in
     let m = span name_byte w in
-    let no-blank : 0 ≡ span blank_byte w = sym (span-ends blank_byte b r (rw starts)) in
-    sym (way-word w 0 no-blank w (class_of b) m (word_token (take m w)) refl (omega arith) refl starts refl refl)
+    let no-blank : 0 ≡ span blank_byte w = sym (span_ends blank_byte b r (rw starts)) in
+    sym (way_word w 0 no-blank w (class_of b) m (word_token (take m w)) refl (omega arith) refl starts refl refl)
 
 -- so they are well formed if the word is all of them and a name
 pub whole_word : (n : List ℕ) → 0 < length n → eqb (class_of (get_or n 0 0)) letter ≡ true → span name_byte n ≡ length n
@@ -66,10 +66,10 @@ no_letter_first (b ∷ r) some other = go (blank_byte b) refl
     go : (t : Bool) → blank_byte b ≡ t → well_formed (b ∷ r) ≡ false
     go true e =
         let counted = span_counts blank_byte b r e in
-        rw (ne_eqb (next_token (b ∷ r)).start 0 (λ z. omega (arith, start-is-blanks (b ∷ r))), and-false)
+        rw (ne_eqb (next_token (b ∷ r)).start 0 (λ z. omega (arith, start_is_blanks (b ∷ r))), and-false)
     go false e =
-        let no-blank : 0 ≡ span blank_byte (b ∷ r) = sym (span-ends blank_byte b r e) in
-        let sign = way-sign (b ∷ r) 0 no-blank (b ∷ r) (class_of b) (sign_token (class_of b)) refl (omega arith) refl
+        let no-blank : 0 ≡ span blank_byte (b ∷ r) = sym (span_ends blank_byte b r e) in
+        let sign = way_sign (b ∷ r) 0 no-blank (b ∷ r) (class_of b) (sign_token (class_of b)) refl (omega arith) refl
         (eqb-false (class_of b) letter other) refl in
         rw (← sign, sign_no_name (class_of b))
 
@@ -111,5 +111,5 @@ unfolding next_token
 name_well_formed s n e =
     let k = span blank_byte s in
     let (reach, formed) = name_is_word k (drop k s) n e in
-    let same : n ≡ span name_byte (drop k s) = omega (arith, reach, start-is-blanks s, (name-reaches s n e).reach) in
-    rw (start-is-blanks s, same) formed
+    let same : n ≡ span name_byte (drop k s) = omega (arith, reach, start_is_blanks s, (name_reaches s n e).reach) in
+    rw (start_is_blanks s, same) formed

@@ -19,7 +19,7 @@ use Rattle.standing.specs.declared.records.Session.{Session}
 use Rattle.steps.specs.Steps.{opening}
 use Rattle.simulation.specs.Likeness.{Alike}
 use Rattle.simulation.proofs.CallsAlike.{call_alike}
-use Rattle.simulation.proofs.RunsAlike.{opening-alike}
+use Rattle.simulation.proofs.RunsAlike.{opening_alike}
 use Rattle.wording.specs.Lines.{text_of, later_lines}
 use Rattle.wording.specs.Orders.{call_of}
 use Rattle.transcripts.specs.Replies.{refused_line, refused_path_line, path_line, reply_line}
@@ -66,7 +66,7 @@ short_exists : (input : List ℕ) → length input ≤ 65536 → (r : Reply) →
 short_exists input short Accepts e =
     let (x, fits) = (compiled_compiles (text_of input)).accepts.0 (rw e refl) in
     let opens = opening_opens (table_of x) (sound_table (text_of input) x fits) in
-    let start = opening-alike (table_of x) (opening (table_of x)) (opening (table_of x)) blanks blanks opens in
+    let start = opening_alike (table_of x) (opening (table_of x)) (opening (table_of x)) blanks blanks opens in
     let (replies, talk) = talk_exists (table_of x) (opening (table_of x)) blanks _ start (later_lines input) in
     (path_line (table_of x) ++ replies, path_accepted short x fits replies talk refl)
 short_exists input short (Refuses why) e = (

@@ -13,7 +13,7 @@ use Rattle.standing.specs.declared.records.Session.{Session}
 use Rattle.standing.specs.Lists.{blank_entry}
 use Rattle.standing.specs.Soundness.{Sound}
 use Rattle.steps.specs.Steps.{opening}
-use Rattle.simulation.proofs.Leaving.{leaves-sound, leaves-rest}
+use Rattle.simulation.proofs.Leaving.{leaves_sound, leaves_rest}
 use Rattle.wording.specs.Lines.{text_of}
 use Rattle.wording.specs.Orders.{call_of}
 use Rattle.wording.proofs.Putting.{put_in_front}
@@ -38,25 +38,25 @@ fits_list s l h = let most = h.is_sound.record_sound.count_most in let long = h.
 
 module _ (s s' : Session) (l l' : List Entry) (line said : List ℕ) where
   -- what is printed of a line is at most 11 bytes for each of its own, LF included
-  says-long : (c : Option Call) → call_of line ≡ c → Standing s l → Says c s l said s' l' → length said ≤ 11 * suc (length line)
-  says-long none e h (a, b, is) = let short = refused_long 16 (omega arith) in rw is (omega (arith, short))
-  says-long (some c) e h (r, by, is) =
+  says_long : (c : Option Call) → call_of line ≡ c → Standing s l → Says c s l said s' l' → length said ≤ 11 * suc (length line)
+  says_long none e h (a, b, is) = let short = refused_long 16 (omega arith) in rw is (omega (arith, short))
+  says_long (some c) e h (r, by, is) =
       let short = reply_long s s' l l' (fits_list s l h) h.is_sound c r by in
       let long = call_long line c e in
       rw is (omega (arith, short, long))
 
-  says-standing : (c : Option Call) → Standing s l → Says c s l said s' l' → Standing s' l'
-  says-standing none h (a, b, is) = rw (a, b) h
-  says-standing (some c) h (r, by, is) =
-      record { long = (leaves-rest s s' l l' c r by).0 ∙ h.long; is_sound = leaves-sound s s' l l' c r by h.is_sound }
+  says_standing : (c : Option Call) → Standing s l → Says c s l said s' l' → Standing s' l'
+  says_standing none h (a, b, is) = rw (a, b) h
+  says_standing (some c) h (r, by, is) =
+      record { long = (leaves_rest s s' l l' c r by).0 ∙ h.long; is_sound = leaves_sound s s' l l' c r by h.is_sound }
 
 talk_long : (s : Session) (l : List Entry) (lines : List (List ℕ)) (said : List ℕ) → Standing s l → Talk s l lines said
     → length said ≤ 11 * sized lines
 unfolding Talk sized
 talk_long s l [] said h e = rw e (omega arith)
 talk_long s l (line ∷ lines) said h (s', l', first, rest, says, talk, e) =
-    let here = says-long s s' l l' line first (call_of line) refl h says in
-    let there = talk_long s' l' lines rest (says-standing s s' l l' line first (call_of line) h says) talk in
+    let here = says_long s s' l l' line first (call_of line) refl h says in
+    let there = talk_long s' l' lines rest (says_standing s s' l l' line first (call_of line) h says) talk in
     let both = length-append first rest in
     rw e (omega (arith, here, there, both))
 

@@ -14,7 +14,7 @@ use Rattle.compiler.specs.Compiling.Answer.{accepted, refused}
 use Rattle.compiler.proofs.CompiledTexts.{compiled_compiles}
 use Rattle.standing.specs.declared.entries.Entry.{Entry}
 use Rattle.standing.specs.declared.records.Session.{Session}
-use Rattle.simulation.proofs.Leaving.{leaves-one}
+use Rattle.simulation.proofs.Leaving.{leaves_one}
 use Rattle.wording.specs.Lines.{text_of}
 use Rattle.wording.specs.Orders.{call_of}
 use Rattle.transcripts.specs.Replies.{refused_path_line, path_line, reply_line}
@@ -63,7 +63,7 @@ says_one : (c : Option Call) (s s₁ s₂ : Session) (l l₁ l₂ : List Entry) 
     → (u ≡ v) × (s₁ ≡ s₂) × (l₁ ≡ l₂)
 says_one none s s₁ s₂ l l₁ l₂ u v (a, b, e) (a', b', e') = (e ∙ sym e', a ∙ sym a', b ∙ sym b')
 says_one (some c) s s₁ s₂ l l₁ l₂ u v (r, by, e) (r', by', e') =
-    let (same, records, lists) = leaves-one s s₁ s₂ l l₁ l₂ c r r' by by' in
+    let (same, records, lists) = leaves_one s s₁ s₂ l l₁ l₂ c r r' by by' in
     (e ∙ ap (reply_line s.table c) same ∙ sym e', records, lists)
 
 pub talk_one : (s : Session) (l : List Entry) (lines : List (List ℕ)) (u v : List ℕ) → Talk s l lines u → Talk s l lines v → u ≡ v

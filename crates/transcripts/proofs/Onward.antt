@@ -38,11 +38,11 @@ module _ {s₀ : Session} {l₀ : List Entry} {lines : List (List ℕ)} {out₀ 
   all_told t = record { said = t.said ++ []; talk = t.onward [] refl; puts = puts_as (sym (append-nil t.said)) t.puts }
 
   -- one line more
-  pub one-more-told : (line : List ℕ) (rest : List (List ℕ)) → Told s₀ l₀ lines out₀ at s l (line ∷ rest) out k
+  pub one_more_told : (line : List ℕ) (rest : List (List ℕ)) → Told s₀ l₀ lines out₀ at s l (line ∷ rest) out k
       → {r : Turn} {after : List ℕ} → Turned s l line out k r after
       → Told s₀ l₀ lines out₀ at r.line.session r.line.list rest after r.at
   unfolding Talk
-  one-more-told line rest t {r = r} turned =
+  one_more_told line rest t {r = r} turned =
       record {
         said = t.said ++ turned.said;
         puts = puts_more t.puts turned.puts;
@@ -53,17 +53,17 @@ module _ {s₀ : Session} {l₀ : List Entry} {lines : List (List ℕ)} {out₀ 
 
 -- ---- the places of the input
 module _ (input : List ℕ) (i b : ℕ) (told : b ≡ before lf (take (length input - i) (drop i input))) where
-  b-is : b ≡ before lf (drop i input)
-  b-is = told ∙ ap (λ s. before lf s) (part_to_end input i)
+  b_is : b ≡ before lf (drop i input)
+  b_is = told ∙ ap (λ s. before lf s) (part_to_end input i)
 
-  pub line-within : i < length input → i + b ≤ length input
-  line-within h =
+  pub line_within : i < length input → i + b ≤ length input
+  line_within h =
       let most : before lf (drop i input) ≤ length (drop i input) = span_within _ (drop i input) in
       let long = length-drop i input in
-      omega (arith, h, b-is, most, long)
+      omega (arith, h, b_is, most, long)
 
-  behind-line : (j : ℕ) → j ≡ min (i + b + 1) (length input) → drop j input ≡ drop (b + 1) (drop i input)
-  behind-line j e =
+  behind_line : (j : ℕ) → j ≡ min (i + b + 1) (length input) → drop j input ≡ drop (b + 1) (drop i input)
+  behind_line j e =
       let place : i + b + 1 ≡ i + (b + 1) = omega arith in
       ap (λ n. drop n input) e
       ∙ min_cases (i + b + 1) (length input) (drop (min (i + b + 1) (length input)) input ≡ drop (i + b + 1) input)
@@ -76,9 +76,9 @@ module _ (input : List ℕ) (i b : ℕ) (told : b ≡ before lf (take (length in
       → lines_of (drop i input) ≡ take (i + b - i) (drop i input) ∷ lines_of (drop j input)
   lines_from h j e =
       let cut : drop i input ≡ get_or input i 0 ∷ drop (suc i) input = drop-cons input i 0 h in
-      let count : before lf (drop i input) ≡ i + b - i = omega (arith, b-is) in
+      let count : before lf (drop i input) ≡ i + b - i = omega (arith, b_is) in
       subst (λ x. lines_of x ≡ take (before lf x) x ∷ lines_of (drop (before lf x + 1) x)) (sym cut)
       (first_line (get_or input i 0) (drop (suc i) input))
       ∙ ap (λ n. take n (drop i input) ∷ lines_of (drop (before lf (drop i input) + 1) (drop i input))) count
-      ∙ ap (λ n. take (i + b - i) (drop i input) ∷ lines_of (drop (n + 1) (drop i input))) (sym b-is)
-      ∙ ap (λ s. take (i + b - i) (drop i input) ∷ lines_of s) (sym (behind-line j e))
+      ∙ ap (λ n. take (i + b - i) (drop i input) ∷ lines_of (drop (n + 1) (drop i input))) (sym b_is)
+      ∙ ap (λ s. take (i + b - i) (drop i input) ∷ lines_of s) (sym (behind_line j e))

@@ -7,7 +7,7 @@ use lib.ListN.{length, drop, length-drop}
 use Rattle.text.specs.Tokens.{next_token}
 use Rattle.text.specs.declared.tokens.Token.{Token}
 use Rattle.text.specs.declared.tokens.Token.TheVariants.{Semicolon, Plus, Star, Open, Close, Path, End, Name, TextEnd, Bad, Long}
-use Rattle.text.proofs.Reading.{start-within-used, used-within-text}
+use Rattle.text.proofs.Reading.{start_within_used, used_within_text}
 use Rattle.grammar.specs.Symbols.{Symbol, Lexeme, Item, items_by, items_within, items_from, items}
 use Rattle.grammar.specs.Refusals.{Row, Refused}
 use Rattle.grammar.specs.Refusals.Row.{bad_byte, long_name, no_text, too_deep, one_position_too_many, one_name_too_many}
@@ -36,8 +36,8 @@ items_within_told : (n f k : ℕ) (s : List ℕ) → k + length s ≤ n → With
 unfolding Within items_within
 items_within_told n zero k s h = tt
 items_within_told n (suc f) k s h =
-    let starts = start-within-used s in
-    let ends = used-within-text s in
+    let starts = start_within_used s in
+    let ends = used_within_text s in
     let left = length-drop (next_token s).used s in
     by_within n (next_token s).token (k + (next_token s).start) _ _ (omega (arith, h, starts, ends))
     (items_within_told n f (k + (next_token s).used) (drop (next_token s).used s) (omega (arith, h, ends, left)))

@@ -17,7 +17,7 @@ use Rattle.standing.specs.declared.searches.Found.{Found}
 use Rattle.standing.specs.declared.searches.Found.TheVariants.{Nobody, At}
 use Rattle.standing.specs.Lists.{in_use}
 use Rattle.standing.specs.Soundness.{Sound, meets_set}
-use Rattle.standing.proofs.Seeking.{Finds, seek_finds, found-in-use}
+use Rattle.standing.proofs.Seeking.{Finds, seek_finds, found_in_use}
 use Rattle.steps.specs.declared.replies.AskReply.{AskReply}
 use Rattle.steps.specs.declared.replies.AskReply.TheVariants.{Granted, Delayed, Refused as AskRefused}
 use Rattle.steps.specs.declared.replies.Next.{Next}
@@ -71,9 +71,9 @@ module _ (s : Session) (l : List Entry) (fits : s.waiting ≤ length l) (sound :
   few : s.waiting ≤ 64
   few = sound.record_sound.count_most
 
-  ask-small : (e : Entry) → Small (ask_step s l e).answer
+  ask_small : (e : Entry) → Small (ask_step s l e).answer
   unfolding ask_step
-  ask-small e = go (is_free s.state && meets_set s e.operation.0) refl
+  ask_small e = go (is_free s.state && meets_set s e.operation.0) refl
     where
       go : (b : Bool) → (is_free s.state && meets_set s e.operation.0) ≡ b → Small (ask_step s l e).answer
       go true p = rw p tt
@@ -82,30 +82,30 @@ module _ (s : Session) (l : List Entry) (fits : s.waiting ≤ length l) (sound :
           let most = sound.record_sound.count_most in
           rw p (omega (arith, ahead, most))
 
-  handed-small : (test : Entry → Bool) (f : Found) → Finds test (in_use s l) f → Small (hand_on (freed s) l f).answer
-  handed-small test Nobody finds = let most = few in omega (arith, most)
-  handed-small test (At w) finds =
-      let (there, is) = found-in-use s l fits test w finds in
+  handed_small : (test : Entry → Bool) (f : Found) → Finds test (in_use s l) f → Small (hand_on (freed s) l f).answer
+  handed_small test Nobody finds = let most = few in omega (arith, most)
+  handed_small test (At w) finds =
+      let (there, is) = found_in_use s l fits test w finds in
       let below = sound.terminals_below w.place there in
       let most = few in
       (omega (arith, there, most), let who = ap (λ e. e.terminal.0) is in omega (arith, below, who))
 
-  finish-small : Small (finish_step s l).answer
+  finish_small : Small (finish_step s l).answer
   unfolding picked finish_step
-  finish-small =
-      handed-small (λ e. meets_set (freed s) e.operation.0) (picked (freed s) l)
+  finish_small =
+      handed_small (λ e. meets_set (freed s) e.operation.0) (picked (freed s) l)
       (seek_finds (λ e. meets_set (freed s) e.operation.0) (in_use s l))
 
-  back-small : (test : Entry → Bool) (f : Found) → Finds test (in_use s l) f → Small (take_back s l f).answer
-  back-small test Nobody finds = omega arith
-  back-small test (At w) finds =
-      let (there, is) = found-in-use s l fits test w finds in
+  back_small : (test : Entry → Bool) (f : Found) → Finds test (in_use s l) f → Small (take_back s l f).answer
+  back_small test Nobody finds = omega arith
+  back_small test (At w) finds =
+      let (there, is) = found_in_use s l fits test w finds in
       let most = few in
       omega (arith, there, most)
 
-  withdraw-small : (t : ℕ) → Small (withdraw_step s l t).answer
+  withdraw_small : (t : ℕ) → Small (withdraw_step s l t).answer
   unfolding entry_of withdraw_step
-  withdraw-small t = back-small (λ e. eqb e.terminal.0 t) (entry_of s l t) (seek_finds (λ e. eqb e.terminal.0 t) (in_use s l))
+  withdraw_small t = back_small (λ e. eqb e.terminal.0 t) (entry_of s l t) (seek_finds (λ e. eqb e.terminal.0 t) (in_use s l))
 
 -- ---- the lines
 word_and_number : (w : List ℕ) (n : ℕ) → n < 100 → length (line_of (w ∷ decimal n ∷ [])) ≤ length w + 4
@@ -143,7 +143,7 @@ withdraw_long (WithdrawRefused m) h = let all = refused_long m h in omega (arith
 -- the reply line of any call on a sound record and list
 pub reply_long : (s s' : Session) (l l' : List Entry) → s.waiting ≤ length l → Sound s l → (c : Call) (r : ReplyTo c)
     → Leaves s l c r s' l' → length (reply_line s.table c r) ≤ 88
-reply_long s s' l l' fits sound (ask u n) r by = ask_long r (served_small by (ask-small s l fits sound (entry_for s (record { 0 = u }) n)))
+reply_long s s' l l' fits sound (ask u n) r by = ask_long r (served_small by (ask_small s l fits sound (entry_for s (record { 0 = u }) n)))
 reply_long s s' l l' fits sound (finish u) r by =
-    finish_long s.table sound.record_sound.table_sound r (served_small by (finish-small s l fits sound))
-reply_long s s' l l' fits sound (withdraw u) r by = withdraw_long r (served_small by (withdraw-small s l fits sound u))
+    finish_long s.table sound.record_sound.table_sound r (served_small by (finish_small s l fits sound))
+reply_long s s' l l' fits sound (withdraw u) r by = withdraw_long r (served_small by (withdraw_small s l fits sound u))

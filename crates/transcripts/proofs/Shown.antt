@@ -34,10 +34,10 @@ record Ran (t : Table) (s : Session) (l : List Entry) (lines : List (List ℕ)) 
 module _ (t : Table) (s s' : Session) (l l' : List Entry) (line : List ℕ) (lines : List (List ℕ)) (first rest : List ℕ)
     (over : s.table ≡ t) where
   -- a line more in front
-  ran-more : (c : Option Call) → call_of line ≡ c → Says c s l first s' l' → Ran t s' l' lines rest
+  ran_more : (c : Option Call) → call_of line ≡ c → Says c s l first s' l' → Ran t s' l' lines rest
       → Ran t s l (line ∷ lines) (first ++ rest)
   unfolding Run calls_in shown
-  ran-more none e (same-record, same-list, is) r =
+  ran_more none e (same-record, same-list, is) r =
       record {
         made = r.made;
         session = r.session;
@@ -46,7 +46,7 @@ module _ (t : Table) (s s' : Session) (l l' : List Entry) (line : List ℕ) (lin
         those_calls = rw e r.those_calls;
         printed = rw (e, is, r.printed) refl;
       }
-  ran-more (some c) e (reply, by, is) r =
+  ran_more (some c) e (reply, by, is) r =
       record {
         made = record { call = c; reply = reply } ∷ r.made;
         session = r.session;
@@ -56,9 +56,9 @@ module _ (t : Table) (s s' : Session) (l l' : List Entry) (line : List ℕ) (lin
         printed = rw (e, is, over, r.printed) refl;
       }
 
-  says-table : (c : Option Call) → Says c s l first s' l' → s'.table ≡ t
-  says-table none (same-record, same-list, is) = ap (λ x. x.table) same-record ∙ over
-  says-table (some c) (reply, by, is) = leaves_table s s' l l' c reply by ∙ over
+  says_table : (c : Option Call) → Says c s l first s' l' → s'.table ≡ t
+  says_table none (same-record, same-list, is) = ap (λ x. x.table) same-record ∙ over
+  says_table (some c) (reply, by, is) = leaves_table s s' l l' c reply by ∙ over
 
 talk_ran : (t : Table) (s : Session) (l : List Entry) (lines : List (List ℕ)) (said : List ℕ) → s.table ≡ t → Talk s l lines said
     → Ran t s l lines said
@@ -66,8 +66,8 @@ unfolding Talk Run calls_in shown
 talk_ran t s l [] said over e =
     record { made = []; session = s; list = l; run = (refl, refl); those_calls = refl; printed = e }
 talk_ran t s l (line ∷ lines) said over (s', l', first, rest, says, talk, e) =
-    let further = talk_ran t s' l' lines rest (says-table t s s' l l' line lines first rest over (call_of line) says) talk in
-    subst (Ran t s l (line ∷ lines)) (sym e) (ran-more t s s' l l' line lines first rest over (call_of line) refl says further)
+    let further = talk_ran t s' l' lines rest (says_table t s s' l l' line lines first rest over (call_of line) says) talk in
+    subst (Ran t s l (line ∷ lines)) (sym e) (ran_more t s s' l l' line lines first rest over (call_of line) refl says further)
 
 -- from the opening on
 pub run_shown : (t : Table) → Sound t → (lines : List (List ℕ)) (said : List ℕ) → Talk (opening t) blanks lines said

@@ -29,10 +29,10 @@ unfolding call_of
 call_is text o p reads e = sym reads.call ∙ ap (call_read text) e
 
 module _ {s : Session} {l : List Entry} {text out : List ℕ} {at : ℕ} {r : Turn} {after : List ℕ} (o : Order) (reads : Reads text o) where
-  pub ask-turned : (a : Asking) → o ≡ Ask a
+  pub ask_turned : (a : Asking) → o ≡ Ask a
       → Replied ask_line (Asks s l a.terminal (take (length text - a.from) (drop a.from text))) out at r after
       → Turned s l text out at r after
-  ask-turned a e did =
+  ask_turned a e did =
       record {
         said = ask_line did.reply;
         says = subst (λ c. Says c s l (ask_line did.reply) r.line.session r.line.list) (sym (call_is text o (Ask a) reads e)) (
@@ -43,9 +43,9 @@ module _ {s : Session} {l : List Entry} {text out : List ℕ} {at : ℕ} {r : Tu
         puts = did.puts;
       }
 
-  pub finish-turned : (t : Terminal) → o ≡ Finish t → Replied (finish_line s.table) (Finishes s l t) out at r after
+  pub finish_turned : (t : Terminal) → o ≡ Finish t → Replied (finish_line s.table) (Finishes s l t) out at r after
       → Turned s l text out at r after
-  finish-turned t e did =
+  finish_turned t e did =
       record {
         said = finish_line s.table did.reply;
         says = subst (λ c. Says c s l (finish_line s.table did.reply) r.line.session r.line.list)
@@ -54,9 +54,9 @@ module _ {s : Session} {l : List Entry} {text out : List ℕ} {at : ℕ} {r : Tu
         puts = did.puts;
       }
 
-  pub withdraw-turned : (t : Terminal) → o ≡ Withdraw t → Replied withdraw_line (Withdraws s l t) out at r after
+  pub withdraw_turned : (t : Terminal) → o ≡ Withdraw t → Replied withdraw_line (Withdraws s l t) out at r after
       → Turned s l text out at r after
-  withdraw-turned t e did =
+  withdraw_turned t e did =
       record {
         said = withdraw_line did.reply;
         says = subst (λ c. Says c s l (withdraw_line did.reply) r.line.session r.line.list) (sym (call_is text o (Withdraw t) reads e))
@@ -64,9 +64,9 @@ module _ {s : Session} {l : List Entry} {text out : List ℕ} {at : ℕ} {r : Tu
         puts = did.puts;
       }
 
-  pub unread-turned : o ≡ Unreadable → r.line.session ≡ s → r.line.list ≡ l → Puts out at (refused_line 16) r.at after
+  pub unread_turned : o ≡ Unreadable → r.line.session ≡ s → r.line.list ≡ l → Puts out at (refused_line 16) r.at after
       → Turned s l text out at r after
-  unread-turned e same-session same-list puts =
+  unread_turned e same-session same-list puts =
       record {
         said = refused_line 16;
         says = subst (λ c. Says c s l (refused_line 16) r.line.session r.line.list) (sym (call_is text o Unreadable reads e))

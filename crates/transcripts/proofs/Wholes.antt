@@ -46,15 +46,15 @@ module _ (input : List ℕ) (end : ℕ) (told : end ≡ before lf input) (c : Co
       ∙ sym (later_are input)
 
   module _ {out : List ℕ} {n : ℕ} {after : List ℕ} (short : length input ≤ 65536) where
-    pub prints-accepted : c.reply ≡ Accepts → (from : ℕ) → from ≡ min (end + 1) (length input)
+    pub prints_accepted : c.reply ≡ Accepts → (from : ℕ) → from ≡ min (end + 1) (length input)
         → Ran c.table (lines_of (drop from input)) out n after → Prints input out n after
-    prints-accepted e from at ran =
+    prints_accepted e from at ran =
         let (x, fits) = its_own.accepts.0 (rw e refl) in
         let ruled : c.table ≡ table_of x = (its_own.its_table x fits).by_the_rules in
         let ran' : Ran (table_of x) (later_lines input) out n after = rw (← (later from at), ← ruled) ran in
         prints (path_accepted short x fits ran'.said ran'.talk refl) ran'.puts
 
-    pub prints-refused : (why : Refusal) → c.reply ≡ Refuses why → Puts out 0 (refused_path_line why.number why.place) n after
+    pub prints_refused : (why : Refusal) → c.reply ≡ Refuses why → Puts out 0 (refused_path_line why.number why.place) n after
         → Prints input out n after
-    prints-refused why e puts =
+    prints_refused why e puts =
         prints (path_refused short why.number why.place ((its_own.refuses why.number why.place).0 (rw e refl)) refl) puts

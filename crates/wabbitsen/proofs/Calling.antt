@@ -33,14 +33,14 @@ use Rattle.standing.specs.declared.entries.Entry.{Entry}
 use Rattle.steps.specs.Answers.{Answer}
 use Rattle.standing.specs.contracts.records.Session as S
 use Rattle.standing.specs.contracts.entries.Entry as E
-use Rattle.session.proofs.Answers.{Returns, prepared, by-ending}
+use Rattle.session.proofs.Answers.{Returns, prepared, by_ending}
 use Rattle.session.proofs.Lent.{ref_to, slice_val}
 use Rattle.session.proofs.Values.{IsSession}
 use Rattle.lines.proofs.LentLocals.{Owed}
 use Rattle.wabbitsen.specs.declared.records.Record.{Record}
 use Rattle.wabbitsen.specs.declared.replies.Reply.{Reply}
 use Rattle.wabbitsen.specs.Exporting.{session_in, reply_of, Exported}
-use Rattle.wabbitsen.proofs.Replying.{Replied, Heard, heard-val, IsHeard}
+use Rattle.wabbitsen.proofs.Replying.{Replied, Heard, heard_val, IsHeard}
 use Rattle.wabbitsen.proofs.Loans.{Fits, Lent, Back, Going, lends, hands, comes_back}
 
 -- what they differ in, beside the type X of what is taken
@@ -72,8 +72,8 @@ module _ (X : Declared) (L : LL.Laws X) (D : Called X) where
   Exports z ys x = Exported D.reply.D D.answer (D.Does (session_in z) ys x) z
 
   -- its contract
-  abbrev call-ended : Ended
-  call-ended = record {
+  abbrev call_ended : Ended
+  call_ended = record {
     signature = record {
       lifetimes = 2;
       outlives = [];
@@ -86,8 +86,8 @@ module _ (X : Declared) (L : LL.Laws X) (D : Called X) where
   }
 
   module _ {M : Type 1} (𝓤 : Ura M) where
-    abbrev call-clauses : Clauses 𝓤 call-ended
-    call-clauses κs a = record {
+    abbrev call_clauses : Clauses 𝓤 call_ended
+    call_clauses κs a = record {
       ghost = Unit {0};
       requires = λ _. emp 𝓤;
       ensures = λ _ r e. fact 𝓤 (D.Does a.0.now a.1.0.now a.1.1.0 r e.0.now e.1.0.now);
@@ -97,12 +97,12 @@ module _ (X : Declared) (L : LL.Laws X) (D : Called X) where
       open 𝓛 use {H}
 
       abbrev pub CallSays : Contract 𝓤
-      CallSays = triple_of 𝓛 call-ended.signature (closing 𝓛 call-ended call-clauses)
+      CallSays = triple_of 𝓛 call_ended.signature (closing 𝓛 call_ended call_clauses)
 
       module _ {C : Calls 𝓤 H} (fm : FmC 𝓤 H 𝓛.laws C) (κ : Lft) (s : Share) (l b o : ℕ) (γ : GName) (h : Session)
           (ys : List Entry) (x : X.D) (gh : IsSession h) where
-        abbrev to-call : ℕ × GName → CallSays.Ghost
-        to-call a = (
+        abbrev to_call : ℕ × GName → CallSays.Ghost
+        to_call a = (
           (
             (a.0 ∷ [], (κ, tt)),
             (full_share, (s, tt)),
@@ -120,14 +120,14 @@ module _ (X : Declared) (L : LL.Laws X) (D : Called X) where
         abbrev Answers : D.reply.D × (Session × List Entry) → Type 0
         Answers = Fits (IsHeard replied) (D.Does h ys x) ys
 
-        pub call-answers : Triple 𝓤 (C D.call_name) CallSays
+        pub call_answers : Triple 𝓤 (C D.call_name) CallSays
             → Returns 𝓛 C D.call_name (vptr l 0 ∷ slice_val b o ys ∷ LL.val X L x ∷ []) (Lent κ s l b o γ h ys Asking)
-            (λ v. heard-val replied v.0) Answers (Back κ s l γ (‵ ftrue))
-        call-answers known = prepared 𝓛 (Going κ s l b o γ h ys Asking) (lends 𝓛 κ s l b o γ ys h gh Asking)
-            (λ a. by-ending 𝓛 fm call-ended call-clauses (to-call a) known (λ v. heard-val replied v.0) Answers
+            (λ v. heard_val replied v.0) Answers (Back κ s l γ (‵ ftrue))
+        call_answers known = prepared 𝓛 (Going κ s l b o γ h ys Asking) (lends 𝓛 κ s l b o γ ys h gh Asking)
+            (λ a. by_ending 𝓛 fm call_ended call_clauses (to_call a) known (λ v. heard_val replied v.0) Answers
             (Back κ s l γ (‵ ftrue)) (Going κ s l b o γ h ys Asking a) (sem 𝓛 (Owed S.the_row a.0 l a.1))
             (hands 𝓛 κ s l b o γ ys a h (‵ ftrue) (owns (row X ∷ []) (x, tt) (LL.val X L x ∷ [], tt)))
-            (λ r w is ws. comes_back 𝓛 κ s l b o γ ys a (heard-val replied) (IsHeard replied) (D.Does h ys x) r w
+            (λ r w is ws. comes_back 𝓛 κ s l b o γ ys a (heard_val replied) (IsHeard replied) (D.Does h ys x) r w
             (ap only (EL.tells D.reply D.reply_laws r (w ∷ []) is))
             (subst (Is (Heard replied) r) (EL.tells D.reply D.reply_laws r (w ∷ []) is) is)
             ws.0 ws.1.0 (‵ ftrue) (fsep (left ((row X).exit yes) x ws.1.1.0) ftrue)))

@@ -56,9 +56,9 @@ compiles_for_determined text t₁ t₂ r₁ r₂ c₁ c₂ =
 module _ {A : Type 0} (answers : A → Answer) (Leaves : A → Session → List Entry → Type 0)
     (one : (a₁ a₂ : A) (s₁ s₂ : Session) (l₁ l₂ : List Entry) → Leaves a₁ s₁ l₁ → Leaves a₂ s₂ l₂ → (a₁ ≡ a₂) × (s₁ ≡ s₂) × (l₁ ≡ l₂))
     (b b₁ b₂ : Record) (l₁ l₂ : List Entry) (r₁ r₂ : Reply) where
-  exported-determined : Exported A answers Leaves b r₁ b₁ l₁ → Exported A answers Leaves b r₂ b₂ l₂
+  exported_determined : Exported A answers Leaves b r₁ b₁ l₁ → Exported A answers Leaves b r₂ b₂ l₂
       → (r₁ ≡ r₂) × (b₁ ≡ b₂) × (l₁ ≡ l₂)
-  exported-determined c₁ c₂ =
+  exported_determined c₁ c₂ =
       let (replies, sessions, lists) = one _ _ _ _ _ _ c₁.leaves c₂.leaves in (
         c₁.is_reply ∙ ap (λ (a : A). reply_of (answers a)) replies ∙ sym c₂.is_reply,
         c₁.is_record ∙ ap (holding b) sessions ∙ sym c₂.is_record,
@@ -67,16 +67,16 @@ module _ {A : Type 0} (answers : A → Answer) (Leaves : A → Session → List 
 
 pub opens_for_determined : OpensForDetermined
 opens_for_determined b b₁ b₂ l l₁ l₂ t r₁ r₂ =
-    exported-determined openAnswer _ (λ a₁ a₂ s₁ s₂ m₁ m₂. open_determined _ s₁ s₂ l m₁ m₂ t a₁ a₂) b b₁ b₂ l₁ l₂ r₁ r₂
+    exported_determined openAnswer _ (λ a₁ a₂ s₁ s₂ m₁ m₂. open_determined _ s₁ s₂ l m₁ m₂ t a₁ a₂) b b₁ b₂ l₁ l₂ r₁ r₂
 
 pub asks_for_determined : AsksForDetermined
 asks_for_determined b b₁ b₂ l l₁ l₂ t n r₁ r₂ =
-    exported-determined askAnswer _ (λ a₁ a₂ s₁ s₂ m₁ m₂. ask_determined _ s₁ s₂ l m₁ m₂ t n a₁ a₂) b b₁ b₂ l₁ l₂ r₁ r₂
+    exported_determined askAnswer _ (λ a₁ a₂ s₁ s₂ m₁ m₂. ask_determined _ s₁ s₂ l m₁ m₂ t n a₁ a₂) b b₁ b₂ l₁ l₂ r₁ r₂
 
 pub finishes_for_determined : FinishesForDetermined
 finishes_for_determined b b₁ b₂ l l₁ l₂ t r₁ r₂ =
-    exported-determined finishAnswer _ (λ a₁ a₂ s₁ s₂ m₁ m₂. finish_determined _ s₁ s₂ l m₁ m₂ t a₁ a₂) b b₁ b₂ l₁ l₂ r₁ r₂
+    exported_determined finishAnswer _ (λ a₁ a₂ s₁ s₂ m₁ m₂. finish_determined _ s₁ s₂ l m₁ m₂ t a₁ a₂) b b₁ b₂ l₁ l₂ r₁ r₂
 
 pub withdraws_for_determined : WithdrawsForDetermined
 withdraws_for_determined b b₁ b₂ l l₁ l₂ t r₁ r₂ =
-    exported-determined withdrawAnswer _ (λ a₁ a₂ s₁ s₂ m₁ m₂. withdraw_determined _ s₁ s₂ l m₁ m₂ t a₁ a₂) b b₁ b₂ l₁ l₂ r₁ r₂
+    exported_determined withdrawAnswer _ (λ a₁ a₂ s₁ s₂ m₁ m₂. withdraw_determined _ s₁ s₂ l m₁ m₂ t a₁ a₂) b b₁ b₂ l₁ l₂ r₁ r₂

@@ -44,11 +44,11 @@ use Rattle.standing.specs.contracts.entries.Entry as E
 use Rattle.standing.proofs.entries.Entry.TheLaws as E'
 use Rattle.standing.specs.contracts.numbers.Terminal as N
 use Rattle.standing.proofs.numbers.Terminal.TheLaws as N'
-use Rattle.session.proofs.Answers.{returned, answered, answered-as}
+use Rattle.session.proofs.Answers.{returned, answered, answered_as}
 use Rattle.session.proofs.Lent.{ref_to, slice_val}
 use Rattle.session.proofs.Locals.{value_of, field_of, sets, puts, freed}
-use Rattle.session.proofs.Records.{Holds, opens-record, closes-record, unpacks}
-use Rattle.session.proofs.Values.{terminal_val, IsTerminal, typed-session, typed-terminal}
+use Rattle.session.proofs.Records.{Holds, opens_record, closes_record, unpacks}
+use Rattle.session.proofs.Values.{terminal_val, IsTerminal, typed_session, typed_terminal}
 use Rattle.session.proofs.ListCalls.{Left}
 use Rattle.wabbitsen.specs.declared.records.Record.{Record}
 use Rattle.wabbitsen.specs.declared.replies.Reply.{Reply}
@@ -59,10 +59,10 @@ use Rattle.wabbitsen.specs.contracts.replies.Reply as Q
 use Rattle.wabbitsen.proofs.replies.Reply.TheLaws as Q'
 use Rattle.wabbitsen.proofs.records.session_in.Symbol.{name as #session-in}
 use Rattle.wabbitsen.proofs.records.holding.Symbol.{name as #holding}
-use Rattle.wabbitsen.proofs.Converting.{typed-record, SessionInSays, HoldingSays, session-in-answers, holding-answers}
-use Rattle.wabbitsen.proofs.Replying.{Replied, told_val, IsTold, typed-told, told-owned, heard-mir, typed-heard, TellSays}
-use Rattle.wabbitsen.proofs.Replying.{tell-answers}
-use Rattle.wabbitsen.proofs.Calling.{Called, replied, Exports, CallSays, call-answers}
+use Rattle.wabbitsen.proofs.Converting.{typed_record, SessionInSays, HoldingSays, session_in_answers, holding_answers}
+use Rattle.wabbitsen.proofs.Replying.{Replied, told_val, IsTold, typed_told, told_owned, heard_mir, typed_heard, TellSays}
+use Rattle.wabbitsen.proofs.Replying.{tell_answers}
+use Rattle.wabbitsen.proofs.Calling.{Called, replied, Exports, CallSays, call_answers}
 
 -- a call by a terminal
 abbrev pub ByTerminal : Type 2
@@ -101,7 +101,7 @@ module _ (D : ByTerminal) where
     locals =
         local Q'.mir value_local ∷ local (ty_ref (named 0) mut (pointee (R.the_row).written)) value_local
         ∷ local (slice_ty (ty_ref (named 1) mut entry)) value_local ∷ local N'.mir value_local
-        ∷ local R'.mir value_local ∷ local S'.mir memory_slot ∷ local (heard-mir answering) value_local ∷ local S'.mir value_local
+        ∷ local R'.mir value_local ∷ local S'.mir memory_slot ∷ local (heard_mir answering) value_local ∷ local S'.mir value_local
         ∷ local (ty_ref erased mut (pointee (S.the_row).written)) value_local
         ∷ local (ty_ref erased mut entry) value_local ∷ local (slice_ty (ty_ref erased mut entry)) value_local
         ∷ local R'.mir value_local ∷ [];
@@ -171,7 +171,7 @@ module _ (D : ByTerminal) {M : Type 1} {𝓤 : Ura M} (𝓛 : Logic 𝓤) (mem :
         (told_val r) r (y, (zs, (tt, tt))) (tt, (len, (tt, tt)))) $
         says ! so $ move ! (2 ∷ []) $ split ! $ nothing ! $ move ! (1 ∷ 0 ∷ []) $ join ! $ move ! (3 ∷ 0 ∷ []) $ join ! $ frame ! $
         nothing ! $ nothing ! $ fjoin ! $ move ! (1 ∷ 0 ∷ []) $ fjoin ! $ move ! (1 ∷ 0 ∷ []) $ fjoin ! $ frame ! $
-        told-owned ! r gr $ done !
+        told_owned ! r gr $ done !
 
     walk : Room E.the_row (length ys) → ent 𝓤 (on_entry 𝓛 (ended D).signature (κ, (κ', tt)) (q, (q', tt)) args at)
         (WpFn 𝓤 H C Λ (function D) (vptr b o ∷ slice_val b' o' ys ∷ terminal_val x ∷ []) Post)
@@ -182,39 +182,39 @@ module _ (D : ByTerminal) {M : Type 1} {𝓤 : Ura M} (𝓛 : Logic 𝓤) (mem :
         alloc1 ! (λ l₀. alloc1 ! (λ l₁. alloc1 ! (λ l₂. alloc1 ! (λ l₃. alloc1 ! (λ l₄. alloc1 ! (λ l₅.
         alloc1 ! (λ l₆. alloc1 ! (λ l₇. alloc1 ! (λ l₈. alloc1 ! (λ l₉. alloc1 ! (λ l₁₀. alloc1 ! (λ l₁₁. alloc0 ! $ params1 ! $
         pass1 ! (init ! 20 refl (tt, tt)) $ pass1 ! (init ! 18 refl (tt, (tt, (record { fits = room.0 }, tt)))) $
-        pass1 ! (init ! 16 refl (typed-terminal 𝓛 x gx)) $ pass0 ! $
+        pass1 ! (init ! 16 refl (typed_terminal 𝓛 x gx)) $ pass0 ! $
         move ! (24 ∷ 25 ∷ []) $ unpacks ! $ join ! $ move ! (1 ∷ 2 ∷ []) $
         -- [what the record's reference owns; its token; what is owned of the terminal; the list with its token; the locals]
-        opens-record ! tt R.the_type R'.the_laws (named 0) b o z (λ g.
+        opens_record ! tt R.the_type R'.the_laws (named 0) b o z (λ g.
         -- [the record's cell; its open borrow; what tells its value, twice; the terminal; the list with its token; the locals]
-        sets ! 20 refl refl (of_opd ! (load ! (from ! (hop ! (look ! 26 refl) (stop !))) (look_raw ! 0 refl))) (typed-record 𝓛 z g) $
-        answered-as ! fm (session_in z) (session-in-answers 𝓛 mem run fm z g known-session-in)
+        sets ! 20 refl refl (of_opd ! (load ! (from ! (hop ! (look ! 26 refl) (stop !))) (look_raw ! 0 refl))) (typed_record 𝓛 z g) $
+        answered_as ! fm (session_in z) (session_in_answers 𝓛 mem run fm z g known-session-in)
         (and_then ! (value_of ! 20 refl) (no_more !)) (λ gh.
-        puts ! 14 refl refl (typed-session 𝓛 (session_in z) gh) $
-        sets ! 18 refl refl (of_opd ! (value_of ! 14 refl)) (typed-session 𝓛 (session_in z) gh) $
+        puts ! 14 refl refl (typed_session 𝓛 (session_in z) gh) $
+        sets ! 18 refl refl (of_opd ! (value_of ! 14 refl)) (typed_session 𝓛 (session_in z) gh) $
         sets ! 12 refl refl (addr ! (from ! (stop !))) (tt, tt) $
         sets ! 10 refl refl (addr ! (from ! (fld ! refl (hop ! (look_in ! 24 (sub ! 0 refl (whole !))) (stop !))))) (tt, tt) $
         sets ! 8 refl refl (agg ! (and_then ! (value_of ! 10 refl) (and_then ! (field_of ! 24 1 refl refl refl) (no_more !))))
         (tt, (tt, (record { fits = room.0 }, tt))) $
         -- the session's cell, the list and the terminal go to the call
         move ! (5 ∷ 4 ∷ []) $ join ! $ move ! (17 ∷ 0 ∷ []) $ join ! $
-        returned ! fm (call-answers N.the_type N'.the_laws D 𝓤 𝓛 fm κ' q' l₅ b' o' γ' (session_in z) ys x gh known-call)
+        returned ! fm (call_answers N.the_type N'.the_laws D 𝓤 𝓛 fm κ' q' l₅ b' o' γ' (session_in z) ys x gh known-call)
         (and_then ! (value_of ! 10 refl) (and_then ! (value_of ! 6 refl) (and_then ! (value_of ! 19 refl) (no_more !))))
         (λ v came.
         -- what comes back is put into order
         split ! $ move ! (1 ∷ []) $ split ! $ move ! (1 ∷ []) $ drop ! $ move ! (2 ∷ 3 ∷ 4 ∷ 5 ∷ 0 ∷ 1 ∷ 18 ∷ []) $
         -- [the record's cell; its open borrow; what tells its value, twice; what is left of the list; the session's local; the others]
-        puts ! 17 refl refl (typed-heard (answering D) {𝓛 = 𝓛} v.0 came.0) $
-        assigns ! (of_opd ! (value_of ! 5 refl)) (from ! (stop !)) (store ! 15 refl (typed-session 𝓛 v.1.0 came.1.0)) $
-        answered-as ! fm (holding z v.1.0) (holding-answers 𝓛 mem run fm z g known-holding v.1.0 came.1.0)
+        puts ! 17 refl refl (typed_heard (answering D) {𝓛 = 𝓛} v.0 came.0) $
+        assigns ! (of_opd ! (value_of ! 5 refl)) (from ! (stop !)) (store ! 15 refl (typed_session 𝓛 v.1.0 came.1.0)) $
+        answered_as ! fm (holding z v.1.0) (holding_answers 𝓛 mem run fm z g known-holding v.1.0 came.1.0)
         (and_then ! (value_of ! 19 refl) (and_then ! (value_of ! 15 refl) (no_more !))) (λ gy.
-        puts ! 7 refl refl (typed-record 𝓛 (holding z v.1.0) gy) $
+        puts ! 7 refl refl (typed_record 𝓛 (holding z v.1.0) gy) $
         assigns ! (of_opd ! (value_of ! 7 refl)) (from ! (hop ! (look ! 25 refl) (stop !)))
-        (store_raw ! 0 refl (typed-record 𝓛 (holding z v.1.0) gy)) $
-        closes-record ! tt R.the_type R'.the_laws (named 0) b o R'.the_plain (holding z v.1.0) gy $
+        (store_raw ! 0 refl (typed_record 𝓛 (holding z v.1.0) gy)) $
+        closes_record ! tt R.the_type R'.the_laws (named 0) b o R'.the_plain (holding z v.1.0) gy $
         -- [what the record's reference owns; its token; what is left of the list; the session's local; the others]
-        answered ! fm (tell-answers (answering D) 𝓤 𝓛 fm known-tell v.0 came.0) (and_then ! (value_of ! 15 refl) (no_more !)) (λ t told.
-        puts ! 25 refl refl (typed-told {𝓛 = 𝓛} t told.0) $
+        answered ! fm (tell_answers (answering D) 𝓤 𝓛 fm known-tell v.0 came.0) (and_then ! (value_of ! 15 refl) (no_more !)) (λ t told.
+        puts ! 25 refl refl (typed_told {𝓛 = 𝓛} t told.0) $
         returns ! (look ! 25 refl) $ freed ! 25 refl refl $ freed ! 23 refl refl $ freed ! 21 refl refl $ freed ! 19 refl refl $
         freed ! 17 refl refl $ freed ! 3 refl refl $ freed ! 13 refl refl $ freed ! 11 refl refl $ freed ! 9 refl refl $
         freed ! 7 refl refl $ freed ! 5 refl refl $ freed ! 3 refl refl $ free0 ! $
@@ -226,8 +226,8 @@ module _ (D : ByTerminal) {M : Type 1} {𝓤 : Ura M} (𝓛 : Logic 𝓤) (mem :
           is_record = refl;
         })))))))))))))))))))
 
-  pub called-meets : Meets 𝓛 (ended D).signature (WpFn 𝓤 H C Λ (function D)) (closing 𝓛 (ended D) (clauses D 𝓤))
-  called-meets = walk_Meets 𝓛 (ended D) (stayed D) (
+  pub called_meets : Meets 𝓛 (ended D).signature (WpFn 𝓤 H C Λ (function D)) (closing 𝓛 (ended D) (clauses D 𝓤))
+  called_meets = walk_Meets 𝓛 (ended D) (stayed D) (
     Goes-ref 𝓛 2 0 tt (plain (λ _. R.the_row)),
     (
       Goes-gave_slice 𝓛 2 1 tt (plain (λ _. E.the_row)),

@@ -23,7 +23,7 @@ use Rattle.standing.specs.contracts.records.Session as S
 use Rattle.standing.proofs.records.Session.TheLaws as S'
 use Rattle.standing.specs.contracts.entries.Entry as E
 use Rattle.session.proofs.Records.{Holds}
-use Rattle.session.proofs.Values.{session_val, IsSession, made-session}
+use Rattle.session.proofs.Values.{session_val, IsSession, made_session}
 use Rattle.session.proofs.ListCalls.{Lists, Had, Left}
 use Rattle.lines.proofs.LentLocals.{Owed, lends_local, local_back}
 
@@ -56,7 +56,7 @@ module _ {M : Type 1} {𝓤 : Ura M} (𝓛 : Logic 𝓤) (κ : Lft) (s : Share) 
       → ent 𝓤 (mean 𝓛 (Lent κ s l b o γ h ys q)) (H.⇛ (mean 𝓛 (some (Going κ s l b o γ h ys q))))
   lends h gh q = qed 𝓛 (‵ (fat full_share S'.mir l 0 (session_val h)) ∷ Had κ s b o γ ys ∷ q ∷ []) ∵ updating ! $
       use1 𝓛 (later (some (Borrowed κ s l h)))
-      (lends_local 𝓛 S.the_row S'.mir refl session_val (made-session 𝓛) (named 0) h gh l) $
+      (lends_local 𝓛 S.the_row S'.mir refl session_val (made_session 𝓛) (named 0) h gh l) $
       await ! tt $ pick ! (λ a. at_once ! $
       show ! (λ (c : ℕ × GName). mean 𝓛 (Going κ s l b o γ h ys q c)) a $ done !)
 

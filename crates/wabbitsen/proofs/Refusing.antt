@@ -62,31 +62,31 @@ Stands s l o = number_in o ≢ 0 → (o.session ≡ s) × (o.list ≡ l)
 
 module _ {A : Type 0} (answer : A → Answer) {R : ℕ → Type 0} (b b' : Record) (l l' : List Entry) (step : Outcome) (r : Reply) where
   -- of any call that is exported
-  changes-nothing : number_in step ≡ 0
+  changes_nothing : number_in step ≡ 0
       → Exported A answer (λ a s' l''. Serves R (session_in b) l step (record { answer = answer a; session = s'; list = l'' })) b r b' l'
       → AsBefore b l r b' l'
-  changes-nothing serves call number =
+  changes_nothing serves call number =
       let (session, list) = served (Stands (session_in b) l) call.leaves (λ m refused. (refl, refl)) (λ none refused. absurd (refused serves))
       (λ zero. number (ap (λ (t : Reply). t.number) call.is_reply ∙ zero)) in
       (call.is_record ∙ ap (holding b) session ∙ holding_session_in b, list)
 
 pub refused_open_changes_nothing : RefusedOpenChangesNothing
-refused_open_changes_nothing b b' l l' t r call = changes-nothing openAnswer b b' l l' _ r (open_step_serves t l) call
+refused_open_changes_nothing b b' l l' t r call = changes_nothing openAnswer b b' l l' _ r (open_step_serves t l) call
 
 pub refused_ask_changes_nothing : RefusedAskChangesNothing
-refused_ask_changes_nothing b b' l l' t n r call = changes-nothing askAnswer b b' l l' _ r (ask_step_serves (session_in b) l _ _ refl) call
+refused_ask_changes_nothing b b' l l' t n r call = changes_nothing askAnswer b b' l l' _ r (ask_step_serves (session_in b) l _ _ refl) call
 
 pub refused_finish_changes_nothing : RefusedFinishChangesNothing
-refused_finish_changes_nothing b b' l l' t r call = changes-nothing finishAnswer b b' l l' _ r (finish_step_serves (session_in b) l) call
+refused_finish_changes_nothing b b' l l' t r call = changes_nothing finishAnswer b b' l l' _ r (finish_step_serves (session_in b) l) call
 
 pub refused_withdraw_changes_nothing : RefusedWithdrawChangesNothing
 refused_withdraw_changes_nothing b b' l l' t r call =
-    changes-nothing withdrawAnswer b b' l l' _ r (withdraw_step_serves (session_in b) l t.0) call
+    changes_nothing withdrawAnswer b b' l l' _ r (withdraw_step_serves (session_in b) l t.0) call
 
 pub refused_compile_zeros : RefusedCompileZeros
 refused_compile_zeros text t r call number =
-    refused-by call.reply call.compiles (λ zero. number (ap (λ (t : Reply). t.number) call.is_reply ∙ zero))
+    refused_by call.reply call.compiles (λ zero. number (ap (λ (t : Reply). t.number) call.is_reply ∙ zero))
   where
-    refused-by : (c : CompileReply) → Compiles text (record { reply = c; table = t }) → (compile_reply_of (answer c)).number ≢ 0 → t ≡ zeros
-    refused-by Accepted compiles never = absurd (never refl)
-    refused-by (Refused m) compiles number = compiles.no_table _ _ ((compiles.refuses _ _).0 refl)
+    refused_by : (c : CompileReply) → Compiles text (record { reply = c; table = t }) → (compile_reply_of (answer c)).number ≢ 0 → t ≡ zeros
+    refused_by Accepted compiles never = absurd (never refl)
+    refused_by (Refused m) compiles number = compiles.no_table _ _ ((compiles.refuses _ _).0 refl)

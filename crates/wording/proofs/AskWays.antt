@@ -11,7 +11,7 @@ use Rattle.wording.specs.Lines.{space, before, fields_of}
 use Rattle.wording.specs.Orders.{ask_word, number_in, three_read, ReadsAs}
 use Rattle.wording.specs.declared.orders.Order.{Order}
 use Rattle.wording.specs.declared.orders.Order.TheVariants.{Unreadable}
-use Rattle.wording.proofs.Fields.{ask-without-name, ask-for-nothing, ask-for-more, asks}
+use Rattle.wording.proofs.Fields.{ask_without_name, ask_for_nothing, ask_for_more, asks}
 
 module _ (line : List ℕ) (from k : ℕ) (fits : from ≤ length line)
     (told : k ≡ before space (take (length line - from) (drop from line))) where
@@ -22,48 +22,48 @@ module _ (line : List ℕ) (from k : ℕ) (fits : from ≤ length line)
   long : length rest ≡ length line - from
   long = length-drop from line
 
-  k-is : k ≡ before space rest
-  k-is = told ∙ ap (λ s. before space s) (part_to_end line from)
+  k_is : k ≡ before space rest
+  k_is = told ∙ ap (λ s. before space s) (part_to_end line from)
 
-  pub end-within : from + k ≤ length line
-  end-within =
+  pub end_within : from + k ≤ length line
+  end_within =
       let most : before space rest ≤ length rest = span_within _ rest in
-      omega (arith, fits, k-is, long, most)
+      omega (arith, fits, k_is, long, most)
 
   pub no_name : length line ≤ from + k → ReadsAs line (ask_word ∷ fields_of rest) Unreadable
-  no_name h = ask-without-name line rest (omega (arith, h, k-is, long))
+  no_name h = ask_without_name line rest (omega (arith, h, k_is, long))
 
   module _ (inside : from + k < length line) where
     first_inside : before space rest < length rest
-    first_inside = omega (arith, inside, k-is, long)
+    first_inside = omega (arith, inside, k_is, long)
 
     abbrev at : ℕ
     at = from + k + 1
 
     -- the bytes behind the second space
-    name-is : drop at line ≡ drop (before space rest + 1) rest
-    name-is =
-        let place : at ≡ from + (before space rest + 1) = omega (arith, k-is) in
+    name_is : drop at line ≡ drop (before space rest + 1) rest
+    name_is =
+        let place : at ≡ from + (before space rest + 1) = omega (arith, k_is) in
         ap (λ j. drop j line) place ∙ sym (drop-drop (before space rest + 1) from line)
 
     name_long : length (drop (before space rest + 1) rest) ≡ length line - at
-    name_long = ap length (sym name-is) ∙ length-drop at line
+    name_long = ap length (sym name_is) ∙ length-drop at line
 
     pub empty_name : length line ≤ at → ReadsAs line (ask_word ∷ fields_of rest) Unreadable
-    empty_name h = ask-for-nothing line rest first_inside (sym name-is ∙ drop_of_length-le line h)
+    empty_name h = ask_for_nothing line rest first_inside (sym name_is ∙ drop_of_length-le line h)
 
     module _ (m : ℕ) (found : m ≡ before space (take (length line - at) (drop at line))) where
-      m-is : m ≡ before space (drop (before space rest + 1) rest)
-      m-is = found ∙ ap (λ s. before space s) (part_to_end line at ∙ name-is)
+      m_is : m ≡ before space (drop (before space rest + 1) rest)
+      m_is = found ∙ ap (λ s. before space s) (part_to_end line at ∙ name_is)
 
-      pub space-in-name : m < length line - at → ReadsAs line (ask_word ∷ fields_of rest) Unreadable
-      space-in-name h = ask-for-more line rest first_inside (omega (arith, h, m-is, name_long))
+      pub space_in_name : m < length line - at → ReadsAs line (ask_word ∷ fields_of rest) Unreadable
+      space_in_name h = ask_for_more line rest first_inside (omega (arith, h, m_is, name_long))
 
-      pub whole-ask : at < length line → length line - at ≤ m → (r : Order)
+      pub whole_ask : at < length line → length line - at ≤ m → (r : Order)
           → r ≡ three_read (number_in (take (from + k - from) rest)) at → ReadsAs line (ask_word ∷ fields_of rest) r
-      whole-ask some h r e =
-          let digits : from + k - from ≡ before space rest = omega (arith, k-is) in
+      whole_ask some h r e =
+          let digits : from + k - from ≡ before space rest = omega (arith, k_is) in
           subst (λ o. ReadsAs line (ask_word ∷ fields_of rest) o)
           (sym (e ∙ ap (λ j. three_read (number_in (take j rest)) at) digits))
-          (asks line rest first_inside at (omega (arith, h, m-is, name_long))
-          (λ none. let short = ap length none in absurd (omega (arith, short, name_long, some))) name-is (omega (arith, some)))
+          (asks line rest first_inside at (omega (arith, h, m_is, name_long))
+          (λ none. let short = ap length none in absurd (omega (arith, short, name_long, some))) name_is (omega (arith, some)))

@@ -100,9 +100,9 @@ number_of s e = rw e refl
 -- ---- two fields
 module _ (line word : List ℕ) where
   -- of a word that is not `ask`, and one field behind it
-  two-read : (s : List ℕ) → call_read line (two_read word (number_in s)) ≡ two_fields word s
+  two_read_told : (s : List ℕ) → call_read line (two_read word (number_in s)) ≡ two_fields word s
   unfolding two_fields
-  two-read s = go (is_number s) (same word finish_word) (same word withdraw_word) refl refl refl
+  two_read_told s = go (is_number s) (same word finish_word) (same word withdraw_word) refl refl refl
     where
       go : (t u v : Bool) → is_number s ≡ t → same word finish_word ≡ u → same word withdraw_word ≡ v
           → call_read line (two_read word (number_in s)) ≡ two_fields word s
@@ -111,9 +111,9 @@ module _ (line word : List ℕ) where
       go true false false e f w = rw (number_of s e, e, f, w) refl
       go false u v e f w = rw (number_none s e, e) refl
 
-  two-start : (n : Number) → name_start (two_read word n) ≡ 0
-  two-start None = refl
-  two-start (Of t) = go (same word finish_word) (same word withdraw_word) refl refl
+  two_start : (n : Number) → name_start (two_read word n) ≡ 0
+  two_start None = refl
+  two_start (Of t) = go (same word finish_word) (same word withdraw_word) refl refl
     where
       go : (u v : Bool) → same word finish_word ≡ u → same word withdraw_word ≡ v → name_start (two_read word (Of t)) ≡ 0
       go true v f w = rw f refl
@@ -133,8 +133,8 @@ module _ (line word : List ℕ) where
       go : (t : Bool) → ltb (before space s) (length s) ≡ t → ReadsAs line (word ∷ fields_of s) (two_read word (number_in s))
       go false e =
           record {
-            call = two-read s ∙ sym (ap (λ fs. call_in (word ∷ fs)) (one_field s (ltb-false _ _ e)));
-            within = rw (two-start (number_in s)) (omega arith);
+            call = two_read_told s ∙ sym (ap (λ fs. call_in (word ∷ fs)) (one_field s (ltb-false _ _ e)));
+            within = rw (two_start (number_in s)) (omega arith);
           }
       go true e =
           let inside = ltb-true _ _ e in
@@ -144,7 +144,7 @@ module _ (line word : List ℕ) where
                 ap (λ n. call_read line (two_read word n)) (number_none s (space_no_number s inside))
                 ∙ sym (no_call other (take (before space s) s) w ws)
                 ∙ sym (ap (λ fs. call_in (word ∷ fs)) (more_fields s inside ∙ ap (λ fs. take (before space s) s ∷ fs) is));
-            within = rw (two-start (number_in s)) (omega arith);
+            within = rw (two_start (number_in s)) (omega arith);
           }
 
 -- ---- an ask
@@ -168,9 +168,9 @@ unfolding same three_fields
 three_none t name e = rw e refl
 
 module _ (line s : List ℕ) where
-  pub ask-without-name : length s ≤ before space s → ReadsAs line (ask_word ∷ fields_of s) Unreadable
+  pub ask_without_name : length s ≤ before space s → ReadsAs line (ask_word ∷ fields_of s) Unreadable
   unfolding same two_fields
-  ask-without-name h = unreadable line _ (ap (λ fs. call_in (ask_word ∷ fs)) (one_field s h) ∙ go (is_number s) refl)
+  ask_without_name h = unreadable line _ (ap (λ fs. call_in (ask_word ∷ fs)) (one_field s h) ∙ go (is_number s) refl)
     where
       go : (t : Bool) → is_number s ≡ t → two_fields ask_word s ≡ none
       go true e = rw e refl
@@ -186,12 +186,12 @@ module _ (line s : List ℕ) where
     in_three : (fs : List (List ℕ)) → fields_of name ≡ fs → call_in (ask_word ∷ fields_of s) ≡ call_in (ask_word ∷ t ∷ fs)
     in_three fs e = ap (λ gs. call_in (ask_word ∷ gs)) (more_fields s h ∙ ap (λ gs. t ∷ gs) e)
 
-    pub ask-for-nothing : name ≡ [] → ReadsAs line (ask_word ∷ fields_of s) Unreadable
+    pub ask_for_nothing : name ≡ [] → ReadsAs line (ask_word ∷ fields_of s) Unreadable
     unfolding three_fields fields_of
-    ask-for-nothing e = unreadable line _ (in_three ([] ∷ []) (rw e refl) ∙ rw (and-false (same ask_word ask_word && is_number t)) refl)
+    ask_for_nothing e = unreadable line _ (in_three ([] ∷ []) (rw e refl) ∙ rw (and-false (same ask_word ask_word && is_number t)) refl)
 
-    pub ask-for-more : before space name < length name → ReadsAs line (ask_word ∷ fields_of s) Unreadable
-    ask-for-more g =
+    pub ask_for_more : before space name < length name → ReadsAs line (ask_word ∷ fields_of s) Unreadable
+    ask_for_more g =
         let (w, ws, is) = some_field (drop (before space name + 1) name) in
         unreadable line _ (in_three _ (more_fields name g ∙ ap (λ gs. take (before space name) name ∷ gs) is))
 

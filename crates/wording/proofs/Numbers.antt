@@ -23,17 +23,17 @@ digit_range b e = go (leb 48 b) (leb b 57) refl refl e
     go false v p q h = absurd (false≢true h)
 
 module _ (s : List ℕ) (i : ℕ) (h : i < length s) where
-  pub digit-here : is_digit (get_or s i 0) ≡ true → all_digits (drop i s) ≡ all_digits (drop (i + 1) s)
+  pub digit_here : is_digit (get_or s i 0) ≡ true → all_digits (drop i s) ≡ all_digits (drop (i + 1) s)
   unfolding all_digits
-  digit-here e = rw (add-one i, drop-cons s i 0 h, e) refl
+  digit_here e = rw (add-one i, drop-cons s i 0 h, e) refl
 
-  pub no-digit-here : is_digit (get_or s i 0) ≡ false → all_digits (drop i s) ≡ false
+  pub no_digit_here : is_digit (get_or s i 0) ≡ false → all_digits (drop i s) ≡ false
   unfolding all_digits
-  no-digit-here e = rw (drop-cons s i 0 h, e) refl
+  no_digit_here e = rw (drop-cons s i 0 h, e) refl
 
-  pub value-here : (v : ℕ) → value_from v (drop i s) ≡ value_from (v * 10 + (get_or s i 0 - 48)) (drop (i + 1) s)
+  pub value_here : (v : ℕ) → value_from v (drop i s) ≡ value_from (v * 10 + (get_or s i 0 - 48)) (drop (i + 1) s)
   unfolding value_from
-  value-here v = rw (add-one i, drop-cons s i 0 h) refl
+  value_here v = rw (add-one i, drop-cons s i 0 h) refl
 
 pub all_of_none : all_digits [] ≡ true
 unfolding all_digits
@@ -73,10 +73,10 @@ not_one_to_three s (inr h) = go (leb 1 (length s)) refl
     go false e = rw e refl
 
 module _ (s : List ℕ) (few : length s ≤ 3) (some : 1 ≤ length s) where
-  pub not-all-digits : all_digits s ≡ false → number_in s ≡ None
+  pub not_all_digits : all_digits s ≡ false → number_in s ≡ None
   unfolding is_number number_in
-  not-all-digits e = rw (le-leb 1 (length s) some, le-leb (length s) 3 few, e) refl
+  not_all_digits e = rw (le-leb 1 (length s) some, le-leb (length s) 3 few, e) refl
 
-  pub is-the-number : (v : ℕ) → all_digits s ≡ true → value_of s ≡ v → number_in s ≡ Of (record { 0 = v })
+  pub is_the_number : (v : ℕ) → all_digits s ≡ true → value_of s ≡ v → number_in s ≡ Of (record { 0 = v })
   unfolding is_number number_in
-  is-the-number v e w = rw (le-leb 1 (length s) some, le-leb (length s) 3 few, e, w) refl
+  is_the_number v e w = rw (le-leb 1 (length s) some, le-leb (length s) 3 few, e, w) refl

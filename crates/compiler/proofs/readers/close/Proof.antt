@@ -3,7 +3,7 @@ use borrow.Author.Rules.{rules}
 use borrow.Author.Tests.{ne_eqb}
 use Rattle.compiler.specs.Reading.{closed}
 use Rattle.compiler.proofs.Arms.{not_close}
-use Rattle.compiler.proofs.Closing.{used-behind, start-behind, closed-closes, closed-halts}
+use Rattle.compiler.proofs.Closing.{used_behind, start_behind, closed_closes, closed_halts}
 use Rattle.compiler.proofs.readers.close.Statement.{statement}
 use Rattle.compiler.proofs.readers.close.Tie as tie
 
@@ -30,7 +30,7 @@ enum_told : tie.Need-enum-told
 enum_told c = search rules
 
 sub-t15 : tie.Need-overflow-sub-t15
-sub-t15 c = used-behind c.before.before.before.before.before.before.before.before.before.args.s.now
+sub-t15 c = used_behind c.before.before.before.before.before.before.before.before.before.args.s.now
     c.before.before.before.before.before.before.before.before.before.args.e _
     c.before.before.before.next.ensures c.before.before.before.before.before.before.before.before.before.requires
 
@@ -38,7 +38,7 @@ refusal-of-requires : tie.Need-refusal-of-requires
 refusal-of-requires c κs = search rules
 
 sub-halt : tie.Need-overflow-sub-halt
-sub-halt c = start-behind c.before.before.before.before.before.before.before.before.before.before.args.s.now
+sub-halt c = start_behind c.before.before.before.before.before.before.before.before.before.before.args.s.now
     c.before.before.before.before.before.before.before.before.before.before.args.e _
     c.before.before.before.before.next.ensures
     c.before.before.before.before.before.before.before.before.before.before.requires
@@ -47,14 +47,14 @@ halt-requires : tie.Need-halt-requires
 halt-requires c κs = search rules
 
 returns-2 : tie.Need-returns-2
-returns-2 c = closed-closes c.before.before.before.before.before.before.before.before.before.args.s.now
+returns-2 c = closed_closes c.before.before.before.before.before.before.before.before.before.args.s.now
     c.before.before.before.before.before.before.before.before.before.args.e _
     c.before.before.before.next.ensures c.before.before.before.before.before.before.if1.false
     c.before.enum_told.given.1
 
 returns-3 : tie.Need-returns-3
 returns-3 c =
-    closed-halts c.before.before.before.before.before.before.before.before.before.before.before.args.s.now
+    closed_halts c.before.before.before.before.before.before.before.before.before.before.before.args.s.now
     c.before.before.before.before.before.before.before.before.before.before.before.args.e _
     c.before.before.before.before.before.next.ensures _
     c.before.before.before.before.before.before.before.before.if1.false

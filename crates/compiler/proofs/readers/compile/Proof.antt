@@ -5,8 +5,8 @@ use native.Mathlib.Omega.{arith}
 use borrow.Author.Rules.{rules}
 use Rattle.compiler.proofs.Arms.{not_path}
 use Rattle.compiler.proofs.CompiledTexts.{compiles}
-use Rattle.compiler.proofs.FactorPaths.{used_fits, inside-fits}
-use Rattle.compiler.proofs.Wholes.{compile_long, compile-not-path, starts-with-path}
+use Rattle.compiler.proofs.FactorPaths.{used_fits, inside_fits}
+use Rattle.compiler.proofs.Wholes.{compile_long, compile_not_path, starts_with_path}
 use Rattle.compiler.proofs.readers.compile.Statement.{statement}
 use Rattle.compiler.proofs.readers.compile.Tie as tie
 
@@ -39,7 +39,7 @@ expression-requires c κs = search rules
 
 end-requires : tie.Need-end-requires
 end-requires c κs = (
-  inside-fits _ _ c.before.before.before.before.before.next.ensures _ _ _ c.expression.ensures,
+  inside_fits _ _ c.before.before.before.before.before.next.ensures _ _ _ c.expression.ensures,
   omega (arith, c.before.before.before.before.before.before.if1.false),
 )
 
@@ -52,7 +52,7 @@ refuse-requires-2 c κs = search rules
 returns-2 : tie.Need-returns-2
 returns-2 c =
     compiles _ _
-    (starts-with-path _ (omega (arith, c.before.before.before.before.before.before.before.if1.false)) _
+    (starts_with_path _ (omega (arith, c.before.before.before.before.before.before.before.if1.false)) _
     c.before.before.before.before.before.before.next.ensures
     c.before.before.before.before.enum_told.given.1 _ _
     c.before.before.table-of-zeros.ensures c.before.expression.ensures _ c.end.ensures)
@@ -60,7 +60,7 @@ returns-2 c =
 returns-3 : tie.Need-returns-3
 returns-3 c =
     compiles _ _
-    (compile-not-path _ (omega (arith, c.before.before.before.before.if1.false)) _
+    (compile_not_path _ (omega (arith, c.before.before.before.before.if1.false)) _
     c.before.before.before.next.ensures (not_path c.before.before.before.next.result.token
     c.before.before.match.keys2) _
     (simp (c.refuse2.ensures, c.before.refusal-of.ensures)))

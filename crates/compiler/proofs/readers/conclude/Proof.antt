@@ -2,7 +2,7 @@
 use borrow.Author.Rules.{rules}
 use native.Mathlib.Omega.{arith}
 use Rattle.compiler.proofs.Arms.{not_text_end}
-use Rattle.compiler.proofs.Concluding.{concluded-accepts, concluded-refuses}
+use Rattle.compiler.proofs.Concluding.{concluded_accepts, concluded_refuses}
 use Rattle.compiler.proofs.FactorPaths.{start_fits}
 use Rattle.compiler.proofs.readers.conclude.Statement.{statement}
 use Rattle.compiler.proofs.readers.conclude.Tie as tie
@@ -26,11 +26,11 @@ refuse-requires : tie.Need-refuse-requires
 refuse-requires c κs = search rules
 
 returns : tie.Need-returns
-returns c = concluded-accepts _ _ _ _ c.before.before.before.next.ensures c.before.enum_told.given.1 _ c.complete.ensures
+returns c = concluded_accepts _ _ _ _ c.before.before.before.next.ensures c.before.enum_told.given.1 _ c.complete.ensures
 
 returns-2 : tie.Need-returns-2
 returns-2 c =
-    concluded-refuses _ _ _ _ c.before.before.before.before.next.ensures (not_text_end
+    concluded_refuses _ _ _ _ c.before.before.before.before.next.ensures (not_text_end
     c.before.before.before.before.next.result.token c.before.before.before.match.keys2) _
     (simp (c.refuse.ensures, c.before.before.refusal-of.ensures))
 

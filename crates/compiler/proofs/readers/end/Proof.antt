@@ -2,7 +2,7 @@
 use borrow.Author.Rules.{rules}
 use native.Mathlib.Omega.{arith}
 use Rattle.compiler.proofs.Arms.{not_end}
-use Rattle.compiler.proofs.Concluding.{ended-inside, ended-ends, ended-refuses, end_fits, end-starts, rest-fits}
+use Rattle.compiler.proofs.Concluding.{ended_inside, ended_ends, ended_refuses, end_fits, end_starts, rest_fits}
 use Rattle.compiler.proofs.readers.end.Statement.{statement}
 use Rattle.compiler.proofs.readers.end.Tie as tie
 
@@ -13,7 +13,7 @@ refuse-requires : tie.Need-refuse-requires
 refuse-requires c κs = search rules
 
 returns : tie.Need-returns
-returns c = ended-inside _ _ c.before.if1.true _ c.refuse.ensures
+returns c = ended_inside _ _ c.before.if1.true _ c.refuse.ensures
 
 sub-next : tie.Need-overflow-sub-next
 sub-next c = search rules
@@ -58,7 +58,7 @@ part-conclude-end c = search rules
 conclude-requires : tie.Need-conclude-requires
 conclude-requires c κs = omega (
   arith,
-  rest-fits
+  rest_fits
       c.before.before.before.before.before.before.before.before.before.before.args.text.now
       c.before.before.before.before.before.before.before.before.before.before.args.e
       c.before.before.before.before.before.before.before.if1.false _ c.before.before.before.before.next.ensures
@@ -72,7 +72,7 @@ refusal-of-requires c κs = search rules
 add-refuse : tie.Need-overflow-add-refuse
 add-refuse c = omega (
   arith,
-  end-starts
+  end_starts
       c.before.before.before.before.before.before.before.before.before.args.text.now
       c.before.before.before.before.before.before.before.before.before.args.e
       c.before.before.before.before.before.before.if1.false _ c.before.before.before.next.ensures
@@ -84,13 +84,13 @@ refuse-requires-2 : tie.Need-refuse-requires-2
 refuse-requires-2 c κs = search rules
 
 returns-2 : tie.Need-returns-2
-returns-2 c = ended-ends _ _ c.before.before.before.before.before.before.before.before.if1.false _
+returns-2 c = ended_ends _ _ c.before.before.before.before.before.before.before.before.if1.false _
     c.before.before.before.before.before.next.ensures c.before.before.before.enum_told.given.1 _
     c.conclude.ensures
 
 returns-3 : tie.Need-returns-3
 returns-3 c =
-    ended-refuses _ _ c.before.before.before.before.before.before.before.if1.false _
+    ended_refuses _ _ c.before.before.before.before.before.before.before.if1.false _
     c.before.before.before.before.next.ensures (not_end c.before.before.before.before.next.result.token
     c.before.before.before.match.keys2) _
     (simp (c.refuse2.ensures, c.before.before.refusal-of.ensures))

@@ -1,6 +1,6 @@
 -- `readers::starry` meets its contract: refused, plain or starred (Starry).
 use borrow.Author.Rules.{rules}
-use Rattle.compiler.proofs.Starry.{starry_refused, starry-plain, starry-starred, stars-fit}
+use Rattle.compiler.proofs.Starry.{starry_refused, starry_plain, starry_starred, stars_fit}
 use Rattle.compiler.proofs.readers.starry.Statement.{statement}
 use Rattle.compiler.proofs.readers.starry.Tie as tie
 
@@ -26,7 +26,7 @@ star-part-requires : tie.Need-star-part-requires
 star-part-requires c κs = search rules
 
 sub-t13 : tie.Need-overflow-sub-t13
-sub-t13 c = stars-fit c.before.before.before.before.before.before.before.before.before.args.s.now
+sub-t13 c = stars_fit c.before.before.before.before.before.before.before.before.before.args.s.now
     c.before.before.before.before.before.before.before.before.before.args.p _
     c.before.before.before.before.before.before.if1.false
     c.before.before.before.before.before.before.before.before.before.requires
@@ -34,13 +34,13 @@ sub-t13 c = stars-fit c.before.before.before.before.before.before.before.before.
 
 returns-2 : tie.Need-returns-2
 returns-2 c =
-    starry-starred _ _ _ c.before.before.before.before.before.before.if1.false
+    starry_starred _ _ _ c.before.before.before.before.before.before.if1.false
     c.before.before.before.before.before.before.before.before.before.requires
     c.before.before.before.before.stars.ensures _ c.before.before.before.if2.true
     (simp c.before.star-part.ensures)
 
 returns-3 : tie.Need-returns-3
-returns-3 c = starry-plain _ _ _ c.before.before.before.if1.false c.before.before.before.before.before.before.requires
+returns-3 c = starry_plain _ _ _ c.before.before.before.if1.false c.before.before.before.before.before.before.requires
     c.before.stars.ensures c.if2.false
 
 pub starry-spec : {M : Type 1} → statement M

@@ -4,7 +4,7 @@ use native.Mathlib.Omega.{arith}
 use borrow.Author.Rules.{rules}
 use lib.ListN.{length}
 use Rattle.compiler.proofs.Arms.{not_star}
-use Rattle.compiler.proofs.Stars.{StarsSoFar, no_stars_yet, star-fits, star-is-some, star-more, stars-end}
+use Rattle.compiler.proofs.Stars.{StarsSoFar, no_stars_yet, star_fits, star_is_some, star_more, stars_end}
 use Rattle.compiler.proofs.readers.stars.Statement.{statement}
 use Rattle.compiler.proofs.readers.stars.Tie as tie
 
@@ -37,7 +37,7 @@ add-used c =
     let l = c.before.before.before.before.before.loop in
     omega (
       arith,
-      star-fits _ _ _ l.invariant _ c.before.before.before.next.ensures,
+      star_fits _ _ _ l.invariant _ c.before.before.before.next.ensures,
       c.before.before.before.before.before.before.before.well_formed,
     )
 
@@ -45,14 +45,14 @@ loop-less : tie.Need-loop-smaller invariant-loop decreases-loop
 loop-less c =
     let l = c.before.before.before.before.before.loop in
     let told = c.before.before.before.next.ensures in
-    omega (arith, star-fits _ _ _ l.invariant _ told, star-is-some _ _ _ l.invariant _ told c.before.enum_told.given.1)
+    omega (arith, star_fits _ _ _ l.invariant _ told, star_is_some _ _ _ l.invariant _ told c.before.enum_told.given.1)
 
 loop-again : tie.Need-loop-preserved invariant-loop decreases-loop
-loop-again c = star-more _ _ _ c.before.before.before.before.before.loop.invariant _
+loop-again c = star_more _ _ _ c.before.before.before.before.before.loop.invariant _
     c.before.before.before.next.ensures c.before.enum_told.given.1
 
 returns : tie.Need-returns invariant-loop decreases-loop
-returns c = stars-end _ _ _ c.before.before.before.loop.invariant _ c.before.next.ensures (not_star
+returns c = stars_end _ _ _ c.before.before.before.loop.invariant _ c.before.next.ensures (not_star
     c.before.next.result.token c.match.keys2)
 
 pub stars-spec : {M : Type 1} → statement M

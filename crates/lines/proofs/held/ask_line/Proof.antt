@@ -57,14 +57,14 @@ use Rattle.session.specs.contracts.calls.ask as ask
 use Rattle.session.proofs.calls.ask.Symbol as ask-def
 use Rattle.session.proofs.calls.ask.Symbol.{name as #ask}
 use Rattle.session.proofs.calls.ask.Met as ask-thm
-use Rattle.session.proofs.Answers.{Returns, returned, prepared, by-ending}
+use Rattle.session.proofs.Answers.{Returns, returned, prepared, by_ending}
 use Rattle.session.proofs.Lent.{ref_to, slice_val}
 use Rattle.session.proofs.Locals.{value_of, field_of, sets, puts, freed}
-use Rattle.session.proofs.Values.{terminal_val, IsSession, IsTerminal, typed-session, typed-terminal, terminal-owned}
+use Rattle.session.proofs.Values.{terminal_val, IsSession, IsTerminal, typed_session, typed_terminal, terminal_owned}
 use Rattle.session.proofs.Deciding.{Shows, Named}
-use Rattle.lines.proofs.LineLoans.{IsEntries, line_val, IsLine, line_session, line_list, typed-line, typed-entries}
+use Rattle.lines.proofs.LineLoans.{IsEntries, line_val, IsLine, line_session, line_list, typed_line, typed_entries}
 use Rattle.lines.proofs.LineLoans.{Loans, Cells, Alive, References, Kept, Fits, line_left, is_line_left, Back}
-use Rattle.lines.proofs.LineLoans.{lends_both, hands-both, both-back}
+use Rattle.lines.proofs.LineLoans.{lends_both, hands_both, both_back}
 use Rattle.lines.specs.contracts.held.ask_line.Key.{name as #ask-line}
 use Rattle.lines.specs.contracts.held.ask_line as ask_line
 use Rattle.lines.proofs.held.ask_line.Statement as stated
@@ -80,10 +80,10 @@ IsReply r = Is Y.the_row r (reply_val r ∷ [])
 abbrev out : AskReply → Line → LineAsked
 out r x = record { reply = r; line = x }
 
-abbrev out-val : AskReply → Line → Val
-out-val r x = LL.val O.the_type O'.the_laws (out r x)
+abbrev out_val : AskReply → Line → Val
+out_val r x = LL.val O.the_type O'.the_laws (out r x)
 
-is-out : (r : AskReply) (x : Line) → IsReply r → IsLine x → Is O.the_row (out r x) (out-val r x ∷ [])
+is-out : (r : AskReply) (x : Line) → IsReply r → IsLine x → Is O.the_row (out r x) (out_val r x ∷ [])
 is-out r x gr gx = LL.owes O.the_type O'.the_laws (out r x) (gr, (gx, tt))
 
 abbrev stayed : Stays (ask_line.ended).signature.params (ask_line.ended).kept
@@ -129,20 +129,20 @@ module _ {M : Type 1} {𝓤 : Ura M} (𝓛 : Logic 𝓤) (mem : Memory → SProp
       goes : (a : Loans) → ent 𝓤 (mean 𝓛 (Lent a))
           (sep 𝓤 (AskSays.pre (to-ask a)) (mean 𝓛 (Kept a l l')))
       goes a = qed 𝓛 (Named κ q b o γ ns ∷ Alive a ∷ References a l l' h ys ∷ Kept a l l' ∷ []) ∵ split ! $ nothing ! $
-          move ! (1 ∷ 0 ∷ []) $ fjoin ! $ terminal-owned ! x gx $
+          move ! (1 ∷ 0 ∷ []) $ fjoin ! $ terminal_owned ! x gx $
           fjoin ! $ nothing ! $ move ! (2 ∷ 0 ∷ []) $ join ! $ join ! $ move ! (2 ∷ 0 ∷ []) $ join ! $
           move ! (1 ∷ 0 ∷ []) $ join ! $ use1 𝓛 (raw (AskSays.pre (to-ask a)))
-          (hands-both 𝓛 l l' a h ys (Token κ q) (fsep ((N.the_row).own_val x (terminal_val x ∷ [])) (fsep (Shows κ b o γ ns) ftrue))) $
+          (hands_both 𝓛 l l' a h ys (Token κ q) (fsep ((N.the_row).own_val x (terminal_val x ∷ [])) (fsep (Shows κ b o γ ns) ftrue))) $
           done !
 
-      ask-answers : Triple 𝓤 (C #ask) AskSays
+      ask_answers : Triple 𝓤 (C #ask) AskSays
           → Returns 𝓛 C #ask (vptr l 0 ∷ slice_val (l', 0) 64 ∷ terminal_val x ∷ slice_val b o ns ∷ [])
           (Named κ q b o γ ns ⊛ Cells l l' h ys)
           (λ v. reply_val v.0) (Fits IsReply (Asks h ys x ns)) (Back l l' (Token κ q))
-      ask-answers known = prepared 𝓛 Lent lends
-          (λ a. by-ending 𝓛 fm ask.ended (ask.clauses 𝓛 mem run) (to-ask a) known (λ v. reply_val v.0)
+      ask_answers known = prepared 𝓛 Lent lends
+          (λ a. by_ending 𝓛 fm ask.ended (ask.clauses 𝓛 mem run) (to-ask a) known (λ v. reply_val v.0)
           (Fits IsReply (Asks h ys x ns)) (Back l l' (Token κ q)) (Lent a) (mean 𝓛 (Kept a l l')) (goes a)
-          (λ r w is ws. both-back 𝓛 l l' a reply_val IsReply (Asks h ys x ns) r w
+          (λ r w is ws. both_back 𝓛 l l' a reply_val IsReply (Asks h ys x ns) r w
           (ap only (EL.tells Y.the_type Y'.the_laws r (w ∷ []) is))
           (subst (Is Y.the_row r) (EL.tells Y.the_type Y'.the_laws r (w ∷ []) is) is)
           ws.0 ys ws.1.0 (Token κ q) (fsep ftrue (fsep ftrue ftrue))))
@@ -170,10 +170,10 @@ module _ {M : Type 1} {𝓤 : Ura M} (𝓛 : Logic 𝓤) (mem : Memory → SProp
       Post = (walk_of 𝓛 ask_line.ended stayed (ask_line.clauses 𝓛 mem run)).post (((κ, tt), (q, tt), tt, args, at), tt)
 
       exits : (r : AskReply) (y : Line) → IsReply r → IsLine y → Asks z.session z.list x ns r y.session y.list
-          → ent 𝓤 (mean 𝓛 (Token κ q)) (Post (out-val r y))
+          → ent 𝓤 (mean 𝓛 (Token κ q)) (Post (out_val r y))
       exits r y gr gy so = qed 𝓛 (Token κ q ∷ []) ∵
           suffices ! _ (ends_at 𝓛 ask_line.ended stayed (ask_line.clauses 𝓛 mem run)
-          (((κ, tt), (q, tt), tt, args, at), tt) (out-val r y) (out r y) (tt, (tt, (tt, tt))) (tt, (tt, (tt, tt)))) $
+          (((κ, tt), (q, tt), tt, args, at), tt) (out_val r y) (out r y) (tt, (tt, (tt, tt))) (tt, (tt, (tt, tt)))) $
           says ! so $ frame ! $ nothing ! $ nothing ! $ fjoin ! $ nothing ! $ fjoin ! $ nothing ! $ fjoin ! $ frame ! $
           owned ! O.the_row (Is O.the_row) (LL.makes O.the_type O'.the_plain 𝓛) (out r y) _ (is-out r y gr gy) $ done !
 
@@ -187,28 +187,28 @@ module _ {M : Type 1} {𝓤 : Ura M} (𝓛 : Logic 𝓤) (mem : Memory → SProp
           alloc1 ! (λ l₀. alloc1 ! (λ l₁. alloc1 ! (λ l₂. alloc1 ! (λ l₃. alloc1 ! (λ l₄. alloc1 ! (λ l₅. alloc1 ! (λ l₆.
           alloc1 ! (λ l₇. alloc1 ! (λ l₈.
           alloc1 ! (λ l₉. alloc1 ! (λ l₁₀. alloc1 ! (λ l₁₁. alloc1 ! (λ l₁₂. alloc0 ! $ params1 ! $
-          pass1 ! (init ! 22 refl (typed-line 𝓛 z gz)) $ pass1 ! (init ! 20 refl (typed-terminal 𝓛 x gx)) $
+          pass1 ! (init ! 22 refl (typed_line 𝓛 z gz)) $ pass1 ! (init ! 20 refl (typed_terminal 𝓛 x gx)) $
           pass1 ! (init ! 18 refl (tt, (tt, (record { fits = room.0 }, tt)))) $ pass0 ! $
           -- [the locals, the last in front; the parameters, the last in front; the result; the name with its token]
-          sets ! 16 refl refl (of_opd ! (field_of ! 22 0 refl refl refl)) (typed-session 𝓛 z.session (line_session z gz)) $
-          sets ! 14 refl refl (of_opd ! (field_of ! 22 1 refl refl refl)) (typed-entries 𝓛 z.list (line_list z gz)) $
+          sets ! 16 refl refl (of_opd ! (field_of ! 22 0 refl refl refl)) (typed_session 𝓛 z.session (line_session z gz)) $
+          sets ! 14 refl refl (of_opd ! (field_of ! 22 1 refl refl refl)) (typed_entries 𝓛 z.list (line_list z gz)) $
           sets ! 8 refl refl (addr ! (from ! (stop !))) (tt, tt) $
           sets ! 6 refl refl (addr ! (from ! (stop !))) (tt, tt) $
           sets ! 4 refl refl (agg ! (and_then ! (value_of ! 6 refl) (and_then ! (lit ! tt) (no_more !))))
           (tt, (tt, (record { fits = lit< tt }, tt))) $
           -- the record's cell, the list's and the name go to the call
           move ! (16 ∷ 14 ∷ 26 ∷ []) $ join ! $ move ! (1 ∷ 0 ∷ []) $ join ! $
-          returned ! fm (ask-answers κ q b o γ ns x gx fm l₄ l₅ z.session z.list (line_session z gz)
+          returned ! fm (ask_answers κ q b o γ ns x gx fm l₄ l₅ z.session z.list (line_session z gz)
           (line_list z gz) known)
           (and_then ! (value_of ! 8 refl) (and_then ! (value_of ! 4 refl)
           (and_then ! (value_of ! 18 refl) (and_then ! (value_of ! 16 refl) (no_more !))))) (λ v came.
           split ! $ split ! $ move ! (2 ∷ 1 ∷ 17 ∷ 0 ∷ 18 ∷ []) $
           -- [the token; the list's local; the record's; the other locals; the parameters; the result]
           puts ! 17 refl refl ((EL.lawful Y.the_type Y'.the_laws 𝓛 tt).typed v.0 _ came.0).0 $
-          sets ! 7 refl refl (of_opd ! (value_of ! 3 refl)) (typed-session 𝓛 v.1.0 came.1.0.0) $
-          sets ! 5 refl refl (of_opd ! (value_of ! 1 refl)) (typed-entries 𝓛 v.1.1 came.1.0.1) $
+          sets ! 7 refl refl (of_opd ! (value_of ! 3 refl)) (typed_session 𝓛 v.1.0 came.1.0.0) $
+          sets ! 5 refl refl (of_opd ! (value_of ! 1 refl)) (typed_entries 𝓛 v.1.1 came.1.0.1) $
           sets ! 15 refl refl (agg ! (and_then ! (value_of ! 7 refl) (and_then ! (value_of ! 5 refl) (no_more !))))
-          (typed-line 𝓛 (line_left v) (is_line_left v came.1.0)) $
+          (typed_line 𝓛 (line_left v) (is_line_left v came.1.0)) $
           sets ! 25 refl refl (agg ! (and_then ! (value_of ! 17 refl) (and_then ! (value_of ! 15 refl) (no_more !))))
           ((LL.lawful O.the_type O'.the_laws 𝓛).typed (out v.0 (line_left v)) _
           (is-out v.0 (line_left v) came.0 (is_line_left v came.1.0))).0 $

@@ -21,9 +21,9 @@ use Rattle.lines.proofs.held.LineFinished.TheLaws as O'
 use Rattle.session.proofs.calls.finish.Symbol as call-def
 use Rattle.session.proofs.calls.finish.Symbol.{name as #finish}
 use Rattle.session.proofs.calls.finish.Met as call-thm
-use Rattle.session.proofs.Values.{terminal_val, typed-terminal, made-terminal}
+use Rattle.session.proofs.Values.{terminal_val, typed_terminal, made_terminal}
 use Rattle.lines.proofs.LineLoans.{IsLine}
-use Rattle.lines.proofs.LineWalk.{Lined, Known, CallSays, lined-meets}
+use Rattle.lines.proofs.LineWalk.{Lined, Known, CallSays, lined_meets}
 use Rattle.lines.specs.contracts.held.finish_line.Key.{name as #finish-line}
 use Rattle.lines.specs.contracts.held.finish_line as finish_line
 use Rattle.lines.proofs.held.finish_line.Statement as stated
@@ -57,8 +57,8 @@ is-out r x gr gx = LL.owes O.the_type O'.the_laws (out r x) (gr, (gx, tt))
 known : {M : Type 1} {𝓤 : Ura M} (𝓛 : Logic 𝓤) → Known lined 𝓛
 known 𝓛 = record {
   more_tells = LL.tells N.the_type N'.the_laws;
-  more_made = made-terminal 𝓛;
-  more_typed = typed-terminal 𝓛;
+  more_made = made_terminal 𝓛;
+  more_typed = typed_terminal 𝓛;
   more_last = λ x. tt;
   more_silent = λ x f. refl;
   reply_tells = EL.tells Y.the_type Y'.the_laws;
@@ -73,7 +73,7 @@ unfolding code.routine tables_of
 finish-line-spec 𝓤 𝓛 𝓜 𝓡 =
     entered 𝓤 𝓛.H (triple_of 𝓛 finish_line.signature (finish_line.spec 𝓛 𝓜.mem 𝓡.run))
     (tables 𝓤 𝓛.H 𝓜 𝓡 code.env).C (tables 𝓤 𝓛.H 𝓜 𝓡 code.env).Λ #finish-line code.function (code.unfolded 𝓤 𝓛.H 𝓜 𝓡)
-    (lined-meets lined 𝓛 (known 𝓛)
+    (lined_meets lined 𝓛 (known 𝓛)
     (tables_of 𝓤 𝓛.H 𝓜 (tables 𝓤 𝓛.H 𝓜 𝓡 code.env))
     (cited 𝓤 𝓛.H (CallSays lined 𝓤 𝓛) 𝓜 𝓡 code.env #finish call-def.routine code.calls-session::calls::finish
     (call-thm.met 𝓤 𝓛 𝓜 𝓡)))

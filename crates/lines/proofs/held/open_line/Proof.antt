@@ -21,9 +21,9 @@ use Rattle.lines.proofs.held.LineOpened.TheLaws as O'
 use Rattle.session.proofs.calls.open.Symbol as call-def
 use Rattle.session.proofs.calls.open.Symbol.{name as #open}
 use Rattle.session.proofs.calls.open.Met as call-thm
-use Rattle.session.proofs.Values.{table_val, typed-table, made_table}
+use Rattle.session.proofs.Values.{table_val, typed_table, made_table}
 use Rattle.lines.proofs.LineLoans.{IsLine}
-use Rattle.lines.proofs.LineWalk.{Lined, Known, CallSays, lined-meets}
+use Rattle.lines.proofs.LineWalk.{Lined, Known, CallSays, lined_meets}
 use Rattle.lines.specs.contracts.held.open_line.Key.{name as #open-line}
 use Rattle.lines.specs.contracts.held.open_line as open-line
 use Rattle.lines.proofs.held.open_line.Statement as stated
@@ -58,7 +58,7 @@ known : {M : Type 1} {𝓤 : Ura M} (𝓛 : Logic 𝓤) → Known lined 𝓛
 known 𝓛 = record {
   more_tells = LL.tells B.the_type B'.the_laws;
   more_made = made_table 𝓛;
-  more_typed = typed-table 𝓛;
+  more_typed = typed_table 𝓛;
   more_last = λ x. tt;
   more_silent = λ x f. refl;
   reply_tells = EL.tells Y.the_type Y'.the_laws;
@@ -73,7 +73,7 @@ unfolding code.routine tables_of
 open-line-spec 𝓤 𝓛 𝓜 𝓡 =
     entered 𝓤 𝓛.H (triple_of 𝓛 open-line.signature (open-line.spec 𝓛 𝓜.mem 𝓡.run))
     (tables 𝓤 𝓛.H 𝓜 𝓡 code.env).C (tables 𝓤 𝓛.H 𝓜 𝓡 code.env).Λ #open-line code.function (code.unfolded 𝓤 𝓛.H 𝓜 𝓡)
-    (lined-meets lined 𝓛 (known 𝓛)
+    (lined_meets lined 𝓛 (known 𝓛)
     (tables_of 𝓤 𝓛.H 𝓜 (tables 𝓤 𝓛.H 𝓜 𝓡 code.env))
     (cited 𝓤 𝓛.H (CallSays lined 𝓤 𝓛) 𝓜 𝓡 code.env #open call-def.routine code.calls-session::calls::open
     (call-thm.met 𝓤 𝓛 𝓜 𝓡)))

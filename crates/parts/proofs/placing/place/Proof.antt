@@ -1,6 +1,6 @@
 -- `placing::place` meets its contract: each way through it is a lemma of PlacePaths.
 use borrow.Author.Rules.{rules}
-use Rattle.parts.proofs.PlacePaths.{placed-long, placed-full, placed-known, placed-one-too-many, placed-new}
+use Rattle.parts.proofs.PlacePaths.{placed_long, placed_full, placed_known, placed_one_too_many, placed_new}
 use Rattle.parts.proofs.placing.place.Statement.{statement}
 use Rattle.parts.proofs.placing.place.Tie as tie
 
@@ -8,13 +8,13 @@ refuse-requires : tie.Need-refuse-requires
 refuse-requires c κs = search rules
 
 returns : tie.Need-returns
-returns c = placed-long _ _ _ c.before.if1.true c.refuse.ensures
+returns c = placed_long _ _ _ c.before.if1.true c.refuse.ensures
 
 refuse-requires-2 : tie.Need-refuse-requires-2
 refuse-requires-2 c κs = search rules
 
 returns-2 : tie.Need-returns-2
-returns-2 c = placed-full _ _ _ c.before.before.before.if1.false c.before.if2.true c.refuse2.ensures
+returns-2 c = placed_full _ _ _ c.before.before.before.if1.false c.before.if2.true c.refuse2.ensures
 
 find-requires : tie.Need-find-requires
 find-requires c κs = search rules
@@ -33,7 +33,7 @@ refuse-requires-3 c κs = search rules
 
 returns-3 : tie.Need-returns-3
 returns-3 c =
-    placed-one-too-many _ _ _ c.before.before.before.before.before.before.before.before.before.if1.false
+    placed_one_too_many _ _ _ c.before.before.before.before.before.before.before.before.before.if1.false
     c.before.before.before.before.before.before.before.if2.false _
     c.before.before.before.before.find.ensures c.before.before.enum_told.given.1 c.before.if3.true
     c.refuse3.ensures
@@ -48,13 +48,13 @@ with-position-requires-2 : tie.Need-with-position-requires-2
 with-position-requires-2 c κs = rw c.with-name.ensures c.before.before.before.before.before.before.before.if2.false
 
 returns-4 : tie.Need-returns-4
-returns-4 c = placed-known _ _ _ c.before.before.before.before.before.before.before.before.before.if1.false
+returns-4 c = placed_known _ _ _ c.before.before.before.before.before.before.before.before.before.if1.false
     c.before.before.before.before.before.before.before.if2.false _ c.before.before.before.before.find.ensures
     _ c.before.before.found.given.1 c.with-position.ensures
 
 returns-5 : tie.Need-returns-5
 returns-5 c =
-    placed-new _ _ _ c.before.before.before.before.before.before.before.before.before.before.if1.false
+    placed_new _ _ _ c.before.before.before.before.before.before.before.before.before.before.if1.false
     c.before.before.before.before.before.before.before.before.if2.false _
     c.before.before.before.before.before.find.ensures c.before.before.before.enum_told.given.1
     c.before.before.if3.false

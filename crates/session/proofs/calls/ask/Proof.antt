@@ -65,15 +65,15 @@ use Rattle.session.proofs.lists.find.Met as find-thm
 use Rattle.session.proofs.lists.append.Symbol as append-def
 use Rattle.session.proofs.lists.append.Symbol.{name as #append}
 use Rattle.session.proofs.lists.append.Met as append-thm
-use Rattle.session.proofs.Answers.{returned, answered-as}
+use Rattle.session.proofs.Answers.{returned, answered_as}
 use Rattle.session.proofs.Lent.{ref_to, slice_val}
 use Rattle.session.proofs.Locals.{value_of, field_of, sets, puts, freed}
-use Rattle.session.proofs.Records.{Holds, opens-record, closes-record, unpacks}
-use Rattle.session.proofs.Values.{terminal_val, IsSession, IsTerminal, IsEntry, IsAsked, waiting_fits, typed-session}
-use Rattle.session.proofs.Values.{typed-terminal, typed-search, terminal-owned, typed-asked}
-use Rattle.session.proofs.Deciding.{Named, AskedSays, asked-answers}
-use Rattle.session.proofs.StandingCalls.{LookForSays, look-for-answers}
-use Rattle.session.proofs.ListCalls.{Left, Ends, FindSays, AppendSays, find-answers, append-leaves}
+use Rattle.session.proofs.Records.{Holds, opens_record, closes_record, unpacks}
+use Rattle.session.proofs.Values.{terminal_val, IsSession, IsTerminal, IsEntry, IsAsked, waiting_fits, typed_session}
+use Rattle.session.proofs.Values.{typed_terminal, typed_search, terminal_owned, typed_asked}
+use Rattle.session.proofs.Deciding.{Named, AskedSays, asked_answers}
+use Rattle.session.proofs.StandingCalls.{LookForSays, look_for_answers}
+use Rattle.session.proofs.ListCalls.{Left, Ends, FindSays, AppendSays, find_answers, append_leaves}
 use Rattle.steps.proofs.AskServed.{ask_asks}
 use Rattle.session.specs.contracts.calls.ask.Key.{name as #ask}
 use Rattle.session.specs.contracts.calls.ask as ask'
@@ -154,7 +154,7 @@ module _ {M : Type 1} {𝓤 : Ura M} (𝓛 : Logic 𝓤) (mem : Memory → SProp
         says ! (subst (Asks h ys x ns v.reply v.session) (sym end.0) so) $ split ! $ move ! (4 ∷ []) $ split ! $
         nothing ! $ move ! (2 ∷ 0 ∷ []) $ join ! $ move ! (2 ∷ 0 ∷ []) $ join ! $ move ! (4 ∷ 0 ∷ []) $ join ! $ frame ! $
         nothing ! $ move ! (1 ∷ 0 ∷ []) $ fjoin ! $
-        terminal-owned ! x gx $ fjoin ! $
+        terminal_owned ! x gx $ fjoin ! $
         move ! (1 ∷ 0 ∷ []) $ fjoin ! $ move ! (1 ∷ 0 ∷ []) $ fjoin ! $ frame ! $
         owned ! Y.the_row (Is Y.the_row) (EL.makes Y.the_type Y'.the_plain 𝓛) v.reply _ (is_reply v is) $ done !
 
@@ -170,46 +170,46 @@ module _ {M : Type 1} {𝓤 : Ura M} (𝓛 : Logic 𝓤) (mem : Memory → SProp
         alloc1 ! (λ l₆. alloc1 ! (λ l₇. alloc1 ! (λ l₈. alloc1 ! (λ l₉. alloc1 ! (λ l₁₀. alloc1 ! (λ l₁₁.
         alloc1 ! (λ l₁₂. alloc1 ! (λ l₁₃. alloc1 ! (λ l₁₄. alloc0 ! $ params1 ! $
         pass1 ! (init ! 26 refl (tt, tt)) $ pass1 ! (init ! 24 refl (tt, (tt, (record { fits = room.0 }, tt)))) $
-        pass1 ! (init ! 22 refl (typed-terminal 𝓛 x gx)) $
+        pass1 ! (init ! 22 refl (typed_terminal 𝓛 x gx)) $
         pass1 ! (init ! 20 refl (tt, (tt, (record { fits = room-n.0 }, tt)))) $ pass0 ! $
         move ! (30 ∷ 31 ∷ []) $ unpacks ! $ split ! $ move ! (2 ∷ []) $ fsplit ! $ drop ! $ fsplit ! $ move ! (0 ∷ 2 ∷ []) $
         join ! $ move ! (3 ∷ 4 ∷ 5 ∷ 0 ∷ []) $ move ! (4 ∷ 5 ∷ []) $ drop ! $ drop ! $
         -- [what the record's reference owns; its token; the list with its token; the name with its token; the locals]
-        opens-record ! tt S.the_type S'.the_laws (named 0) b o h (λ g.
+        opens_record ! tt S.the_type S'.the_laws (named 0) b o h (λ g.
         -- [the record's cell; its open borrow; what tells its value, twice; the list and the name, with their tokens; the locals]
         sets ! 24 refl refl (of_opd ! (load ! (from ! (hop ! (look ! 32 refl) (stop !))) (look_raw ! 0 refl)))
-        (typed-session 𝓛 h g) $
+        (typed_session 𝓛 h g) $
         sets ! 18 refl refl (addr ! (from ! (fld ! refl (hop ! (look_in ! 30 (sub ! 0 refl (whole !))) (stop !))))) (tt, tt) $
         sets ! 16 refl refl (agg ! (and_then ! (value_of ! 18 refl) (and_then ! (field_of ! 30 1 refl refl refl) (no_more !))))
         (tt, (tt, (record { fits = room.0 }, tt))) $
-        answered-as ! fm (looking h x) (look-for-answers 𝓛 mem run fm h x g gx known-look-for)
+        answered_as ! fm (looking h x) (look_for_answers 𝓛 mem run fm h x g gx known-look-for)
         (and_then ! (value_of ! 24 refl) (and_then ! (value_of ! 28 refl) (no_more !))) (λ sought.
-        puts ! 14 refl refl (typed-search 𝓛 (looking h x) sought) $
+        puts ! 14 refl refl (typed_search 𝓛 (looking h x) sought) $
         -- the list goes to `find`, and comes back
         move ! (4 ∷ []) $
-        returned ! fm (find-answers 𝓛 mem run fm κ' q' b' o' γ' ys h.waiting (looking h x) (waiting_fits h g) sought room
+        returned ! fm (find_answers 𝓛 mem run fm κ' q' b' o' γ' ys h.waiting (looking h x) (waiting_fits h g) sought room
         known-find)
         (and_then ! (value_of ! 15 refl) (and_then ! (field_of ! 23 3 refl refl refl)
         (and_then ! (value_of ! 13 refl) (no_more !)))) (λ f found. move ! (1 ∷ 2 ∷ 3 ∷ 4 ∷ []) $
-        puts ! 22 refl refl (typed-search 𝓛 f found.0) $
+        puts ! 22 refl refl (typed_search 𝓛 f found.0) $
         sets ! 12 refl refl (of_opd ! (field_of ! 30 1 refl refl refl)) (tt, record { fits = room.0 }) $
         -- the name goes to `asked`, and comes back
         move ! (5 ∷ []) $
-        returned ! fm (asked-answers 𝓛 mem run fm h (length ys) f x g room.0 found.0 gx known-asked κ'' q'' b'' o'' γ'' ns)
+        returned ! fm (asked_answers 𝓛 mem run fm h (length ys) f x g room.0 found.0 gx known-asked κ'' q'' b'' o'' γ'' ns)
         (and_then ! (value_of ! 23 refl) (and_then ! (value_of ! 11 refl)
         (and_then ! (value_of ! 21 refl) (and_then ! (value_of ! 27 refl) (and_then ! (value_of ! 25 refl) (no_more !))))))
         (λ v made.
         move ! (1 ∷ 2 ∷ 3 ∷ 4 ∷ 5 ∷ []) $
-        puts ! 20 refl refl (typed-asked 𝓛 v made.0) $
+        puts ! 20 refl refl (typed_asked 𝓛 v made.0) $
         assigns ! (of_opd ! (field_of ! 20 1 refl refl refl)) (from ! (hop ! (look ! 32 refl) (stop !)))
-        (store_raw ! 0 refl (typed-session 𝓛 v.session (is_session v made.0))) $
-        closes-record ! tt S.the_type S'.the_laws (named 0) b o S'.the_plain v.session (is_session v made.0) $
+        (store_raw ! 0 refl (typed_session 𝓛 v.session (is_session v made.0))) $
+        closes_record ! tt S.the_type S'.the_laws (named 0) b o S'.the_plain v.session (is_session v made.0) $
         -- [what the record's reference owns; its token; the list with its token; the name with its token; the locals]
         sets ! 6 refl refl (addr ! (from ! (fld ! refl (hop ! (look_in ! 28 (sub ! 0 refl (whole !))) (stop !))))) (tt, tt) $
         sets ! 4 refl refl (agg ! (and_then ! (value_of ! 6 refl) (and_then ! (field_of ! 28 1 refl refl refl) (no_more !))))
         (tt, (tt, (record { fits = room.0 }, tt))) $
         move ! (2 ∷ []) $
-        returned ! fm (append-leaves 𝓛 mem run fm κ' q' b' o' γ' ys known-append v.place v.entry
+        returned ! fm (append_leaves 𝓛 mem run fm κ' q' b' o' γ' ys known-append v.place v.entry
         (place-fits v made.0) (is-entry v made.0))
         (and_then ! (value_of ! 3 refl) (and_then ! (field_of ! 17 2 refl refl refl)
         (and_then ! (field_of ! 17 3 refl refl refl) (no_more !)))) (λ zs end.

@@ -34,12 +34,12 @@ use Rattle.session.proofs.lists.find.Met as find-thm
 use Rattle.session.proofs.lists.take_out.Symbol as take-out-def
 use Rattle.session.proofs.lists.take_out.Symbol.{name as #take-out}
 use Rattle.session.proofs.lists.take_out.Met as take-out-thm
-use Rattle.session.proofs.Values.{IsHanded, typed-handed}
-use Rattle.session.proofs.Deciding.{FinishedSays, finished-answers}
-use Rattle.session.proofs.StandingCalls.{LookForNextSays, look-for-next-answers}
+use Rattle.session.proofs.Values.{IsHanded, typed_handed}
+use Rattle.session.proofs.Deciding.{FinishedSays, finished_answers}
+use Rattle.session.proofs.StandingCalls.{LookForNextSays, look_for_next_answers}
 use Rattle.session.proofs.ListCalls.{FindSays, TakeOutSays}
 use Rattle.steps.proofs.FinishServed.{finish_finishes}
-use Rattle.session.proofs.FinishWithdraw.{Taking, Known, taking-meets}
+use Rattle.session.proofs.FinishWithdraw.{Taking, Known, taking_meets}
 use Rattle.session.specs.contracts.calls.finish.Key.{name as #finish}
 use Rattle.session.specs.contracts.calls.finish as finish'
 use Rattle.session.proofs.calls.finish.Statement as stated
@@ -75,7 +75,7 @@ module _ {M : Type 1} {𝓤 : Ura M} (𝓛 : Logic 𝓤) where
     is_session = λ v is. (LL.owed O.the_type O'.the_laws v _ is).1.0;
     used_fits = λ v is. (LL.owed O.the_type O'.the_laws v _ is).1.1.0.1;
     spot_fits = λ v is. (LL.owed O.the_type O'.the_laws v _ is).1.1.1.0.1;
-    typed_out = typed-handed 𝓛;
+    typed_out = typed_handed 𝓛;
     typed_reply = λ v is. ((EL.lawful Y.the_type Y'.the_laws 𝓛 tt).typed v.reply _ (is_reply v is)).0;
     made_reply = λ v is. EL.makes Y.the_type Y'.the_plain 𝓛 v.reply _ (is_reply v is);
     does = finish_finishes;
@@ -85,9 +85,9 @@ module _ {M : Type 1} {𝓤 : Ura M} (𝓛 : Logic 𝓤) where
     finish-meets : Triple 𝓤 (𝓣.C #look-for-next) (LookForNextSays 𝓛 mem run) → Triple 𝓤 (𝓣.C #finished) (FinishedSays 𝓛 mem run)
         → Triple 𝓤 (𝓣.C #find) (FindSays 𝓛 mem run) → Triple 𝓤 (𝓣.C #take-out) (TakeOutSays 𝓛 mem run)
         → Meets 𝓛 finish'.signature (WpFn 𝓤 H 𝓣.C 𝓣.Λ code.function) (finish'.spec 𝓛 mem run)
-    finish-meets Known-start known-decide known-find known-take-out = taking-meets taking 𝓛 known mem run 𝓣
-        (λ h x gh gx. look-for-next-answers 𝓛 mem run fm h x gh gx Known-start)
-        (λ h n f x gh gn gf gx. finished-answers 𝓛 mem run fm h n f x gh gn gf gx known-decide) known-find known-take-out
+    finish-meets Known-start known-decide known-find known-take-out = taking_meets taking 𝓛 known mem run 𝓣
+        (λ h x gh gx. look_for_next_answers 𝓛 mem run fm h x gh gx Known-start)
+        (λ h n f x gh gn gf gx. finished_answers 𝓛 mem run fm h n f x gh gn gf gx known-decide) known-find known-take-out
       where
         fm : FmC 𝓤 H 𝓛.laws 𝓣.C
         fm = fm_of 𝓤 H 𝓛.laws 𝓣

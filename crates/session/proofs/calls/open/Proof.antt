@@ -60,11 +60,11 @@ use Rattle.session.proofs.lists.blank.Met as blank-thm
 use Rattle.session.proofs.Answers.{returned, answered}
 use Rattle.session.proofs.Lent.{ref_to, slice_val}
 use Rattle.session.proofs.Locals.{value_of, field_of, sets, puts, freed}
-use Rattle.session.proofs.Records.{Holds, opens-record, closes-record, unpacks}
-use Rattle.session.proofs.Values.{table_val, IsSession, IsTable, IsOpened, typed-session, typed-table, typed-opened}
-use Rattle.session.proofs.Values.{table-owned}
-use Rattle.session.proofs.Deciding.{OpenedSays, opened-answers}
-use Rattle.session.proofs.ListCalls.{Left, Ends, BlankSays, blank-leaves}
+use Rattle.session.proofs.Records.{Holds, opens_record, closes_record, unpacks}
+use Rattle.session.proofs.Values.{table_val, IsSession, IsTable, IsOpened, typed_session, typed_table, typed_opened}
+use Rattle.session.proofs.Values.{table_owned}
+use Rattle.session.proofs.Deciding.{OpenedSays, opened_answers}
+use Rattle.session.proofs.ListCalls.{Left, Ends, BlankSays, blank_leaves}
 use Rattle.steps.proofs.OpenServed.{open_opens}
 use Rattle.session.specs.contracts.calls.open.Key.{name as #open}
 use Rattle.session.specs.contracts.calls.open as open'
@@ -130,7 +130,7 @@ module _ {M : Type 1} {𝓤 : Ura M} (𝓛 : Logic 𝓤) (mem : Memory → SProp
         (tt, (end.1, (tt, tt)))) $
         says ! (subst (Opens h ys x v.reply v.session) (sym end.0) so) $ split ! $ nothing ! $ move ! (1 ∷ 0 ∷ []) $
         join ! $ move ! (3 ∷ 0 ∷ []) $ join ! $ frame ! $
-        nothing ! $ table-owned ! x gx $ fjoin ! $
+        nothing ! $ table_owned ! x gx $ fjoin ! $
         move ! (1 ∷ 0 ∷ []) $ fjoin ! $ move ! (1 ∷ 0 ∷ []) $ fjoin ! $ frame ! $
         owned ! Y.the_row (Is Y.the_row) (EL.makes Y.the_type Y'.the_plain 𝓛) v.reply _ (is_reply v is) $ done !
 
@@ -143,27 +143,27 @@ module _ {M : Type 1} {𝓤 : Ura M} (𝓛 : Logic 𝓤) (mem : Memory → SProp
         alloc1 ! (λ l₀. alloc1 ! (λ l₁. alloc1 ! (λ l₂. alloc1 ! (λ l₃. alloc1 ! (λ l₄. alloc1 ! (λ l₅.
         alloc1 ! (λ l₆. alloc1 ! (λ l₇. alloc1 ! (λ l₈. alloc1 ! (λ l₉. alloc0 ! $ params1 ! $
         pass1 ! (init ! 16 refl (tt, tt)) $ pass1 ! (init ! 14 refl (tt, (tt, (record { fits = room.0 }, tt)))) $
-        pass1 ! (init ! 12 refl (typed-table 𝓛 x gx)) $ pass0 ! $
+        pass1 ! (init ! 12 refl (typed_table 𝓛 x gx)) $ pass0 ! $
         move ! (20 ∷ 21 ∷ []) $ unpacks ! $ drop ! $ drop ! $
         -- [what the record's reference owns; its token; the list with its token; the locals]
-        opens-record ! tt S.the_type S'.the_laws (named 0) b o h (λ g.
+        opens_record ! tt S.the_type S'.the_laws (named 0) b o h (λ g.
         -- [the record's cell; its open borrow; what tells its value, twice; the list with its token; the locals]
         sets ! 13 refl refl (of_opd ! (load ! (from ! (hop ! (look ! 21 refl) (stop !))) (look_raw ! 0 refl)))
-        (typed-session 𝓛 h g) $
+        (typed_session 𝓛 h g) $
         sets ! 11 refl refl (of_opd ! (field_of ! 19 1 refl refl refl)) (tt, record { fits = room.0 }) $
-        answered ! fm (opened-answers 𝓛 mem run fm known-opened h (length ys) x g room.0 gx)
+        answered ! fm (opened_answers 𝓛 mem run fm known-opened h (length ys) x g room.0 gx)
         (and_then ! (value_of ! 13 refl) (and_then ! (value_of ! 11 refl) (and_then ! (value_of ! 17 refl) (no_more !))))
         (λ v made.
-        puts ! 15 refl refl (typed-opened 𝓛 v made.0) $
+        puts ! 15 refl refl (typed_opened 𝓛 v made.0) $
         assigns ! (of_opd ! (field_of ! 15 1 refl refl refl)) (from ! (hop ! (look ! 21 refl) (stop !)))
-        (store_raw ! 0 refl (typed-session 𝓛 v.session (is_session v made.0))) $
-        closes-record ! tt S.the_type S'.the_laws (named 0) b o S'.the_plain v.session (is_session v made.0) $
+        (store_raw ! 0 refl (typed_session 𝓛 v.session (is_session v made.0))) $
+        closes_record ! tt S.the_type S'.the_laws (named 0) b o S'.the_plain v.session (is_session v made.0) $
         -- [what the record's reference owns; its token; the list with its token; the locals]
         sets ! 5 refl refl (addr ! (from ! (fld ! refl (hop ! (look_in ! 17 (sub ! 0 refl (whole !))) (stop !))))) (tt, tt) $
         sets ! 3 refl refl (agg ! (and_then ! (value_of ! 5 refl) (and_then ! (field_of ! 17 1 refl refl refl) (no_more !))))
         (tt, (tt, (record { fits = room.0 }, tt))) $
         move ! (2 ∷ []) $
-        returned ! fm (blank-leaves 𝓛 mem run fm κ' q' b' o' γ' ys known-blank v.blanks (blanks-fit v made.0))
+        returned ! fm (blank_leaves 𝓛 mem run fm κ' q' b' o' γ' ys known-blank v.blanks (blanks-fit v made.0))
         (and_then ! (value_of ! 2 refl) (and_then ! (field_of ! 12 2 refl refl refl) (no_more !))) (λ zs end.
         -- [what is left of the list; what the record's reference owns; its token; the locals]
         puts ! 7 refl refl (tt, tt) $

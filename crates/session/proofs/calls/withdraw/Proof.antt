@@ -34,12 +34,12 @@ use Rattle.session.proofs.lists.find.Met as find-thm
 use Rattle.session.proofs.lists.take_out.Symbol as take-out-def
 use Rattle.session.proofs.lists.take_out.Symbol.{name as #take-out}
 use Rattle.session.proofs.lists.take_out.Met as take-out-thm
-use Rattle.session.proofs.Values.{IsWithdrawn, typed-withdrawn}
-use Rattle.session.proofs.Deciding.{WithdrawnSays, withdrawn-answers}
-use Rattle.session.proofs.StandingCalls.{LookForSays, look-for-answers}
+use Rattle.session.proofs.Values.{IsWithdrawn, typed_withdrawn}
+use Rattle.session.proofs.Deciding.{WithdrawnSays, withdrawn_answers}
+use Rattle.session.proofs.StandingCalls.{LookForSays, look_for_answers}
 use Rattle.session.proofs.ListCalls.{FindSays, TakeOutSays}
 use Rattle.steps.proofs.WithdrawServed.{withdraw_withdraws}
-use Rattle.session.proofs.FinishWithdraw.{Taking, Known, taking-meets}
+use Rattle.session.proofs.FinishWithdraw.{Taking, Known, taking_meets}
 use Rattle.session.specs.contracts.calls.withdraw.Key.{name as #withdraw}
 use Rattle.session.specs.contracts.calls.withdraw as withdraw'
 use Rattle.session.proofs.calls.withdraw.Statement as stated
@@ -75,7 +75,7 @@ module _ {M : Type 1} {𝓤 : Ura M} (𝓛 : Logic 𝓤) where
     is_session = λ v is. (LL.owed O.the_type O'.the_laws v _ is).1.0;
     used_fits = λ v is. (LL.owed O.the_type O'.the_laws v _ is).1.1.0.1;
     spot_fits = λ v is. (LL.owed O.the_type O'.the_laws v _ is).1.1.1.0.1;
-    typed_out = typed-withdrawn 𝓛;
+    typed_out = typed_withdrawn 𝓛;
     typed_reply = λ v is. ((EL.lawful Y.the_type Y'.the_laws 𝓛 tt).typed v.reply _ (is_reply v is)).0;
     made_reply = λ v is. EL.makes Y.the_type Y'.the_plain 𝓛 v.reply _ (is_reply v is);
     does = withdraw_withdraws;
@@ -86,9 +86,9 @@ module _ {M : Type 1} {𝓤 : Ura M} (𝓛 : Logic 𝓤) where
         → Triple 𝓤 (𝓣.C #withdrawn) (WithdrawnSays 𝓛 mem run)
         → Triple 𝓤 (𝓣.C #find) (FindSays 𝓛 mem run) → Triple 𝓤 (𝓣.C #take-out) (TakeOutSays 𝓛 mem run)
         → Meets 𝓛 withdraw'.signature (WpFn 𝓤 H 𝓣.C 𝓣.Λ code.function) (withdraw'.spec 𝓛 mem run)
-    withdraw-meets Known-start known-decide known-find known-take-out = taking-meets taking 𝓛 known mem run 𝓣
-        (λ h x gh gx. look-for-answers 𝓛 mem run fm h x gh gx Known-start)
-        (λ h n f x gh gn gf gx. withdrawn-answers 𝓛 mem run fm h n f x gh gn gf gx known-decide) known-find known-take-out
+    withdraw-meets Known-start known-decide known-find known-take-out = taking_meets taking 𝓛 known mem run 𝓣
+        (λ h x gh gx. look_for_answers 𝓛 mem run fm h x gh gx Known-start)
+        (λ h n f x gh gn gf gx. withdrawn_answers 𝓛 mem run fm h n f x gh gn gf gx known-decide) known-find known-take-out
       where
         fm : FmC 𝓤 H 𝓛.laws 𝓣.C
         fm = fm_of 𝓤 H 𝓛.laws 𝓣

@@ -42,9 +42,9 @@ use Rattle.standing.specs.declared.entries.Entry.{Entry}
 use Rattle.standing.specs.contracts.entries.Entry as E
 use Rattle.standing.proofs.entries.Entry.TheLaws as E'
 use Rattle.session.proofs.Lent.{ref_to, slice_val}
-use Rattle.session.proofs.LentList.{list_mir, Closed, list-owned, entry-out}
-use Rattle.session.proofs.Locals.{Unset, Set, value_of, field_of, sets, freed, freed-unset}
-use Rattle.session.proofs.Values.{word, entry_val, IsEntry, typed-entry, entry-owned, number-owned}
+use Rattle.session.proofs.LentList.{list_mir, Closed, list_owned, entry_out}
+use Rattle.session.proofs.Locals.{Unset, Set, value_of, field_of, sets, freed, freed_unset}
+use Rattle.session.proofs.Values.{word, entry_val, IsEntry, typed_entry, entry_owned, number_owned}
 use Rattle.session.specs.contracts.lists.append.Key.{name as #session·lists·append}
 use Rattle.session.specs.contracts.lists.append as append
 use Rattle.session.proofs.lists.append.Statement as stated
@@ -77,8 +77,8 @@ module _ {M : Type 1} {𝓤 : Ura M} (𝓛 : Logic 𝓤) (mem : Memory → SProp
       qed 𝓛 (Closed κ q b o γ zs []) ∵
       suffices ! _ (ends_at 𝓛 append.ended stayed (append.clauses 𝓛 mem run)
       (((κ, tt), (q, tt), tt, x, at), tt) vunit tt (zs, (tt, (tt, tt))) (l, (tt, (tt, tt)))) $ says ! e $
-      nothing ! $ move ! (3 ∷ 0 ∷ []) $ join ! $ frame ! $ list-owned ! b o ys zs l room $
-      nothing ! $ entry-owned ! v gv $ fjoin ! $ number-owned ! i gi $ fjoin ! $ move ! (1 ∷ 0 ∷ []) $ fjoin ! $ frame ! $
+      nothing ! $ move ! (3 ∷ 0 ∷ []) $ join ! $ frame ! $ list_owned ! b o ys zs l room $
+      nothing ! $ entry_owned ! v gv $ fjoin ! $ number_owned ! i gi $ fjoin ! $ move ! (1 ∷ 0 ∷ []) $ fjoin ! $ frame ! $
       feq_i ! (List Val) (vunit ∷ []) (vunit ∷ []) refl $ done !
 
   module _ (l₀ l₁ l₂ l₃ l₄ l₅ l₆ l₇ : ℕ) where
@@ -93,7 +93,7 @@ module _ {M : Type 1} {𝓤 : Ura M} (𝓛 : Logic 𝓤) (mem : Memory → SProp
     ends zs l e =
         sets ! 17 refl refl (of_opd ! (unit_lit !)) (tt, tt) $
         returns ! (look ! 17 refl) $ freed ! 17 refl refl $ freed ! 15 refl refl $ freed ! 13 refl refl $ freed ! 11 refl refl $
-        freed ! 9 refl refl $ freed ! 7 refl refl $ freed-unset ! 5 refl refl $ freed-unset ! 3 refl refl $ free0 ! $
+        freed ! 9 refl refl $ freed ! 7 refl refl $ freed_unset ! 5 refl refl $ freed_unset ! 3 refl refl $ free0 ! $
         by ! (exits zs l e)
 
   walk : ent 𝓤 (on_entry 𝓛 append.signature (κ, tt) (q, tt) x at)
@@ -104,7 +104,7 @@ module _ {M : Type 1} {𝓤 : Ura M} (𝓛 : Logic 𝓤) (mem : Memory → SProp
       alloc1 ! (λ l₀. alloc1 ! (λ l₁. alloc1 ! (λ l₂. alloc1 ! (λ l₃. alloc1 ! (λ l₄. alloc1 ! (λ l₅. alloc1 ! (λ l₆.
       alloc1 ! (λ l₇. alloc0 ! $ params1 ! $
       pass1 ! (init ! 12 refl (tt, (tt, (record { fits = room.0 }, tt)))) $
-      pass1 ! (init ! 10 refl (tt, record { fits = gi })) $ pass1 ! (init ! 8 refl (typed-entry 𝓛 v gv)) $ pass0 ! $
+      pass1 ! (init ! 10 refl (tt, record { fits = gi })) $ pass1 ! (init ! 8 refl (typed_entry 𝓛 v gv)) $ pass0 ! $
       sets ! 6 refl refl (of_opd ! (field_of ! 12 1 refl refl refl)) (tt, record { fits = room.0 }) $
       sets ! 4 refl refl (bin ! (value_of ! 10 refl) (value_of ! 6 refl) tt) (tt, tt) $
       -- [the locals; the token; what the parameters own]
@@ -117,12 +117,12 @@ module _ {M : Type 1} {𝓤 : Ura M} (𝓛 : Logic 𝓤) (mem : Memory → SProp
       sets ! 5 refl refl (bin ! (value_of ! 13 refl) (lit ! tt) (record { fits = fits less })) (tt, record { fits = fits less }) $
       sets ! 3 refl refl (bin ! (field_of ! 15 0 refl refl refl) (value_of ! 5 refl) tt) (tt, tt) $
       rewrite ! 3 (λ (p : ℕ). ‵ (fat full_share ty_ptr l₇ 0 (vptr b p))) (sym (place_is 4 o i)) refl $
-      opens_slice ! tt E.the_row ys b o $ entry-out ! full_share ys i b o (is-in less) (λ _.
+      opens_slice ! tt E.the_row ys b o $ entry_out ! full_share ys i b o (is-in less) (λ _.
       -- [list[at]; what it owns; the others; the open borrow; obs; auth; the locals]
       assigns_last ! (of_opd ! (value_of ! 14 refl)) (from ! (hop ! (look ! 6 refl) (stop !)))
-      (store_raw ! 0 refl (typed-entry 𝓛 v gv)) $
+      (store_raw ! 0 refl (typed_entry 𝓛 v gv)) $
       exec ! C Λ (En l₀ l₁ l₂ l₃ l₄ l₅ l₆ l₇) mir.t-4 (at_ret (En l₀ l₁ l₂ l₃ l₄ l₅ l₆ l₇) Post) $
-      move ! (1 ∷ []) $ drop ! $ entry-owned ! v gv $ move ! (1 ∷ 0 ∷ []) $
+      move ! (1 ∷ []) $ drop ! $ entry_owned ! v gv $ move ! (1 ∷ 0 ∷ []) $
       elem_put ! E.the_row full_share ys i v (entry_val v ∷ []) b o (is-in less) $
       closes_slice ! tt E.the_row ys (set ys i v) (length-set ys i v) b o $ forget ! 3 refl $ forget ! 5 refl $
       ends l₀ l₁ l₂ l₃ l₄ l₅ l₆ l₇ (set ys i v) (length-set ys i v) refl))

@@ -47,13 +47,13 @@ use Rattle.standing.proofs.numbers.least.Met as least-thm
 use Rattle.standing.proofs.entries.blank_entry.Symbol as blank-entry-def
 use Rattle.standing.proofs.entries.blank_entry.Symbol.{name as #blank-entry}
 use Rattle.standing.proofs.entries.blank_entry.Met as blank-entry-thm
-use Rattle.session.proofs.Answers.{answered-as}
+use Rattle.session.proofs.Answers.{answered_as}
 use Rattle.session.proofs.Lent.{ref_to, slice_val}
-use Rattle.session.proofs.LentList.{list_mir, Opened, Closed, list-owned, entry-out}
-use Rattle.session.proofs.Locals.{Unset, Set, value_of, field_of, sets, puts, freed, freed-unset}
-use Rattle.session.proofs.StandingCalls.{LeastSays, BlankEntrySays, least-answers, blank-entry-answers}
+use Rattle.session.proofs.LentList.{list_mir, Opened, Closed, list_owned, entry_out}
+use Rattle.session.proofs.Locals.{Unset, Set, value_of, field_of, sets, puts, freed, freed_unset}
+use Rattle.session.proofs.StandingCalls.{LeastSays, BlankEntrySays, least_answers, blank_entry_answers}
 use Rattle.session.proofs.While.{Turned, tests, turned, whiles}
-use Rattle.session.proofs.Values.{word, entry_val, IsEntry, typed-entry, entry-owned, number-owned}
+use Rattle.session.proofs.Values.{word, entry_val, IsEntry, typed_entry, entry_owned, number_owned}
 use Rattle.session.proofs.Blanking.{starts, length_blanked, goes_on, ends_as}
 use Rattle.session.specs.contracts.lists.blank.Key.{name as #session·lists·blank}
 use Rattle.session.specs.contracts.lists.blank as blank
@@ -95,8 +95,8 @@ module _ {M : Type 1} {𝓤 : Ura M} (𝓛 : Logic 𝓤) (mem : Memory → SProp
         qed 𝓛 (Closed κ q b o γ zs []) ∵
         suffices ! _ (ends_at 𝓛 blank.ended stayed (blank.clauses 𝓛 mem run) (((κ, tt), (q, tt), tt, x, at), tt) vunit
         tt (zs, (tt, tt)) (l, (tt, tt))) $ says ! e $
-        nothing ! $ move ! (3 ∷ 0 ∷ []) $ join ! $ frame ! $ list-owned ! b o ys zs l room $
-        nothing ! $ number-owned ! n gn $ fjoin ! $ move ! (1 ∷ 0 ∷ []) $ fjoin ! $ frame ! $
+        nothing ! $ move ! (3 ∷ 0 ∷ []) $ join ! $ frame ! $ list_owned ! b o ys zs l room $
+        nothing ! $ number_owned ! n gn $ fjoin ! $ move ! (1 ∷ 0 ∷ []) $ fjoin ! $ frame ! $
         feq_i ! (List Val) (vunit ∷ []) (vunit ∷ []) refl $ done !
 
     abbrev end : ℕ
@@ -134,11 +134,11 @@ module _ {M : Type 1} {𝓤 : Ura M} (𝓛 : Logic 𝓤) (mem : Memory → SProp
           (tt, record { fits = four less }) $
           sets ! 4 refl refl (bin ! (field_of ! 20 0 refl refl refl) (value_of ! 6 refl) tt) (tt, tt) $
           rewrite ! 4 (λ (p : ℕ). ‵ (fat full_share ty_ptr l₉ 0 (vptr b p))) (sym (place_is 4 o u.0)) refl $
-          entry-out ! full_share zs u.0 b o (is-in less) (λ _.
+          entry_out ! full_share zs u.0 b o (is-in less) (λ _.
           -- [list[i]; what it owns; the others; the open borrow; obs; auth; the locals]
           assigns ! (of_opd ! (value_of ! 16 refl)) (from ! (hop ! (look ! 6 refl) (stop !)))
-          (store_raw ! 0 refl (typed-entry 𝓛 blank_entry is-blank)) $
-          move ! (1 ∷ []) $ let_go ! $ entry-owned ! blank_entry is-blank $ move ! (1 ∷ 0 ∷ []) $
+          (store_raw ! 0 refl (typed_entry 𝓛 blank_entry is-blank)) $
+          move ! (1 ∷ []) $ let_go ! $ entry_owned ! blank_entry is-blank $ move ! (1 ∷ 0 ∷ []) $
           elem_put ! E.the_row full_share zs u.0 blank_entry (entry_val blank_entry ∷ []) b o (is-in less) $
           assigns_last ! (bin ! (value_of ! 12 refl) (lit ! tt) (record { fits = next_fits less })) (from ! (stop !))
           (store ! 12 refl (tt, record { fits = next_fits less })) $
@@ -149,8 +149,8 @@ module _ {M : Type 1} {𝓤 : Ura M} (𝓛 : Logic 𝓤) (mem : Memory → SProp
           sets ! 21 refl refl (of_opd ! (unit_lit !)) (tt, tt) $
           returns ! (look ! 21 refl) $
           freed ! 21 refl refl $ freed ! 19 refl refl $ freed ! 17 refl refl $ freed ! 15 refl refl $ freed ! 13 refl refl $
-          freed ! 11 refl refl $ freed ! 9 refl refl $ freed ! 7 refl refl $ freed-unset ! 5 refl refl $
-          freed-unset ! 3 refl refl $ free0 ! $
+          freed ! 11 refl refl $ freed ! 9 refl refl $ freed ! 7 refl refl $ freed_unset ! 5 refl refl $
+          freed_unset ! 3 refl refl $ free0 ! $
           by ! (exits zs same (ends_as n u.0 ys zs u.1.1.0 (nltb→le u.0 end over) u.1.1.1)))
         where
           zs : List Entry
@@ -196,11 +196,11 @@ module _ {M : Type 1} {𝓤 : Ura M} (𝓛 : Logic 𝓤) (mem : Memory → SProp
         pass1 ! (init ! 16 refl (tt, (tt, (record { fits = room.0 }, tt)))) $
         pass1 ! (init ! 14 refl (tt, record { fits = gn })) $ pass0 ! $
         sets ! 6 refl refl (of_opd ! (field_of ! 16 1 refl refl refl)) (tt, record { fits = room.0 }) $
-        answered-as ! fm (min n (length ys)) (least-answers 𝓛 mem run fm known-least n (length ys) gn room.0)
+        answered_as ! fm (min n (length ys)) (least_answers 𝓛 mem run fm known-least n (length ys) gn room.0)
         (and_then ! (value_of ! 14 refl) (and_then ! (value_of ! 6 refl) (no_more !))) (λ _.
         puts ! 12 refl refl (tt, record { fits = end_fits }) $
-        answered-as ! fm blank_entry (blank-entry-answers 𝓛 mem run fm known-blank) (no_more !) (λ is-blank.
-        puts ! 10 refl refl (typed-entry 𝓛 blank_entry is-blank) $
+        answered_as ! fm blank_entry (blank_entry_answers 𝓛 mem run fm known-blank) (no_more !) (λ is-blank.
+        puts ! 10 refl refl (typed_entry 𝓛 blank_entry is-blank) $
         sets ! 8 refl refl (of_opd ! (lit ! tt)) (tt, record { fits = lit< tt }) $
         move ! (21 ∷ []) $ fsplit ! $ fsplit ! $ move ! (1 ∷ []) $ fsplit ! $ move ! (24 ∷ []) $ split ! $
         move ! (2 ∷ 3 ∷ 0 ∷ []) $ opens_slice ! tt E.the_row ys b o $

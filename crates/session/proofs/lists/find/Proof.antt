@@ -56,14 +56,14 @@ use Rattle.standing.proofs.numbers.least.Met as least-thm
 use Rattle.standing.proofs.searches.examine.Symbol as examine-def
 use Rattle.standing.proofs.searches.examine.Symbol.{name as #examine}
 use Rattle.standing.proofs.searches.examine.Met as examine-thm
-use Rattle.session.proofs.Answers.{answered-as}
+use Rattle.session.proofs.Answers.{answered_as}
 use Rattle.session.proofs.Lent.{ref_to, slice_val}
-use Rattle.session.proofs.LentList.{list_mir, entry-out}
-use Rattle.session.proofs.Locals.{Unset, Set, value_of, field_of, sets, puts, freed, freed-unset}
-use Rattle.session.proofs.StandingCalls.{LeastSays, ExamineSays, least-answers, examine-answers}
+use Rattle.session.proofs.LentList.{list_mir, entry_out}
+use Rattle.session.proofs.Locals.{Unset, Set, value_of, field_of, sets, puts, freed, freed_unset}
+use Rattle.session.proofs.StandingCalls.{LeastSays, ExamineSays, least_answers, examine_answers}
 use Rattle.session.proofs.While.{Turned, tests, turned, whiles}
-use Rattle.session.proofs.Values.{word, entry_val, search_val, IsSearch, typed-entry, typed-search, search-owned}
-use Rattle.session.proofs.Values.{number-owned}
+use Rattle.session.proofs.Values.{word, entry_val, search_val, IsSearch, typed_entry, typed_search, search_owned}
+use Rattle.session.proofs.Values.{number_owned}
 use Rattle.session.proofs.Looking.{Sofar, starts, goes_on, ends_as}
 use Rattle.session.specs.contracts.lists.find.Key.{name as #session·lists·find}
 use Rattle.session.specs.contracts.lists.find as find
@@ -108,9 +108,9 @@ module _ {M : Type 1} {𝓤 : Ura M} (𝓛 : Logic 𝓤) (mem : Memory → SProp
         qed 𝓛 (‵ (flft κ q) ∷ ‵ ((ShrSlice (named 0) κ E.the_row).own_val x.0 at.0) ∷ []) ∵
         suffices ! _ (ends_at 𝓛 find.ended stayed (find.clauses 𝓛 mem run) (((κ, tt), (q, tt), tt, x, at), tt)
         (search_val r) r (tt, (tt, (tt, tt))) (tt, (tt, (tt, tt)))) $ says ! e $
-        nothing ! $ move ! (1 ∷ 0 ∷ []) $ join ! $ frame ! $ nothing ! $ search-owned ! search gs $ fjoin ! $
-        number-owned ! n gn $ fjoin ! $ move ! (1 ∷ 0 ∷ []) $ fjoin ! $
-        frame ! $ search-owned ! r g $ done !
+        nothing ! $ move ! (1 ∷ 0 ∷ []) $ join ! $ frame ! $ nothing ! $ search_owned ! search gs $ fjoin ! $
+        number_owned ! n gn $ fjoin ! $ move ! (1 ∷ 0 ∷ []) $ fjoin ! $
+        frame ! $ search_owned ! r g $ done !
 
     abbrev end : ℕ
     end = min n (length ys)
@@ -151,26 +151,26 @@ module _ {M : Type 1} {𝓤 : Ura M} (𝓛 : Logic 𝓤) (mem : Memory → SProp
           rewrite ! 5 (λ (p : ℕ). ‵ (fat full_share ty_ptr l₁₀ 0 (vptr b p))) (sym (place_is 4 o u.0)) refl $
           looks_slice ! tt E.the_row (Is E.the_row) (shows 𝓛 E.the_row) (λ e. entry_val e ∷ [])
           (LL.tells E.the_type E'.the_laws) (LL.copy E.the_type E'.the_copy 𝓛) ys b o (λ q'.
-          entry-out ! q' ys u.0 b o (is-in less) (λ g.
+          entry_out ! q' ys u.0 b o (is-in less) (λ g.
           -- [list[i]; what it owns; the others; what shuts; the fractured borrow; the slice's; the locals]
           sets ! 6 refl refl (of_opd ! (load ! (from ! (hop ! (look ! 8 refl) (stop !))) (look_raw ! 0 refl)))
-          (typed-entry 𝓛 e g) $
+          (typed_entry 𝓛 e g) $
           elem_back ! E.the_row q' ys u.0 blank_entry (entry_val e ∷ []) b o (is-in less) $
           shuts_slice ! tt E.the_row q' ys b o $ move ! (1 ∷ 0 ∷ []) $
-          answered-as ! fm (examined s e u.0)
-          (examine-answers 𝓛 mem run fm known-examine s e u.0 u.1.1.0 g small)
+          answered_as ! fm (examined s e u.0)
+          (examine_answers 𝓛 mem run fm known-examine s e u.0 u.1.1.0 g small)
           (and_then ! (value_of ! 15 refl) (and_then ! (value_of ! 3 refl) (and_then ! (value_of ! 13 refl) (no_more !)))) (λ g'.
-          land ! (from ! (stop !)) (store ! 15 refl (typed-search 𝓛 (examined s e u.0) g')) $
+          land ! (from ! (stop !)) (store ! 15 refl (typed_search 𝓛 (examined s e u.0) g')) $
           assigns_last ! (bin ! (value_of ! 13 refl) (lit ! tt) (record { fits = next_fits less })) (from ! (stop !))
           (store ! 13 refl (tt, record { fits = next_fits less })) $
           forget ! 3 refl $ forget ! 5 refl $ forget ! 7 refl $ forget ! 9 refl $
           turned ! far At u (next less g') (nearer less)))))
           (λ over. jumps ! $ exec ! C Λ En mir.t-6 (at_ret En Post) $
-          sets ! 25 refl refl (of_opd ! (value_of ! 15 refl)) (typed-search 𝓛 s u.1.1.0) $
+          sets ! 25 refl refl (of_opd ! (value_of ! 15 refl)) (typed_search 𝓛 s u.1.1.0) $
           returns ! (look ! 25 refl) $
           freed ! 25 refl refl $ freed ! 23 refl refl $ freed ! 21 refl refl $ freed ! 19 refl refl $ freed ! 17 refl refl $
           freed ! 15 refl refl $ freed ! 13 refl refl $ freed ! 11 refl refl $ freed ! 9 refl refl $
-          freed-unset ! 7 refl refl $ freed-unset ! 5 refl refl $ freed-unset ! 3 refl refl $ free0 ! $
+          freed_unset ! 7 refl refl $ freed_unset ! 5 refl refl $ freed_unset ! 3 refl refl $ free0 ! $
           keep ! (1 ∷ 2 ∷ []) $
           by ! (exits s u.1.1.0 (ends_as ys n search u.0 s (nltb→le u.0 end over) u.1.1.1.1)))
         where
@@ -218,12 +218,12 @@ module _ {M : Type 1} {𝓤 : Ura M} (𝓛 : Logic 𝓤) (mem : Memory → SProp
         alloc1 ! (λ l₀. alloc1 ! (λ l₁. alloc1 ! (λ l₂. alloc1 ! (λ l₃. alloc1 ! (λ l₄. alloc1 ! (λ l₅. alloc1 ! (λ l₆.
         alloc1 ! (λ l₇. alloc1 ! (λ l₈. alloc1 ! (λ l₉. alloc1 ! (λ l₁₀. alloc1 ! (λ l₁₁. alloc0 ! $ params1 ! $
         pass1 ! (init ! 20 refl (tt, (tt, (record { fits = room.0 }, tt)))) $
-        pass1 ! (init ! 18 refl (tt, record { fits = gn })) $ pass1 ! (init ! 16 refl (typed-search 𝓛 search gs)) $ pass0 ! $
+        pass1 ! (init ! 18 refl (tt, record { fits = gn })) $ pass1 ! (init ! 16 refl (typed_search 𝓛 search gs)) $ pass0 ! $
         sets ! 8 refl refl (of_opd ! (field_of ! 20 1 refl refl refl)) (tt, record { fits = room.0 }) $
-        answered-as ! fm (min n (length ys)) (least-answers 𝓛 mem run fm known-least n (length ys) gn room.0)
+        answered_as ! fm (min n (length ys)) (least_answers 𝓛 mem run fm known-least n (length ys) gn room.0)
         (and_then ! (value_of ! 18 refl) (and_then ! (value_of ! 8 refl) (no_more !))) (λ _.
         puts ! 14 refl refl (tt, record { fits = end_fits }) $
-        sets ! 12 refl refl (of_opd ! (value_of ! 16 refl)) (typed-search 𝓛 search gs) $
+        sets ! 12 refl refl (of_opd ! (value_of ! 16 refl)) (typed_search 𝓛 search gs) $
         sets ! 10 refl refl (of_opd ! (lit ! tt)) (tt, record { fits = lit< tt }) $
         -- what the slice owns is had twice: one is kept whole for the exit, and of the other the fractured borrow is kept
         move ! (25 ∷ []) $ fsplit ! $

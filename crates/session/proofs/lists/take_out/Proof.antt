@@ -48,13 +48,13 @@ use Rattle.standing.proofs.numbers.least.Met as least-thm
 use Rattle.standing.proofs.entries.blank_entry.Symbol as blank-entry-def
 use Rattle.standing.proofs.entries.blank_entry.Symbol.{name as #blank-entry}
 use Rattle.standing.proofs.entries.blank_entry.Met as blank-entry-thm
-use Rattle.session.proofs.Answers.{answered-as}
+use Rattle.session.proofs.Answers.{answered_as}
 use Rattle.session.proofs.Lent.{ref_to, slice_val}
-use Rattle.session.proofs.LentList.{list_mir, Opened, Closed, list-owned, entry-out}
-use Rattle.session.proofs.Locals.{Unset, Set, value_of, field_of, sets, puts, freed, freed-unset}
-use Rattle.session.proofs.StandingCalls.{LeastSays, BlankEntrySays, least-answers, blank-entry-answers}
+use Rattle.session.proofs.LentList.{list_mir, Opened, Closed, list_owned, entry_out}
+use Rattle.session.proofs.Locals.{Unset, Set, value_of, field_of, sets, puts, freed, freed_unset}
+use Rattle.session.proofs.StandingCalls.{LeastSays, BlankEntrySays, least_answers, blank_entry_answers}
 use Rattle.session.proofs.While.{Turned, tests, turned, whiles}
-use Rattle.session.proofs.Values.{word, entry_val, IsEntry, typed-entry, entry-owned, number-owned}
+use Rattle.session.proofs.Values.{word, entry_val, IsEntry, typed_entry, entry_owned, number_owned}
 use Rattle.session.proofs.TakingOut.{out_before, starts, goes_on, none_left}
 use Rattle.session.specs.contracts.lists.take_out.Key.{name as #session·lists·take-out}
 use Rattle.session.specs.contracts.lists.take_out as take_out
@@ -96,8 +96,8 @@ module _ {M : Type 1} {𝓤 : Ura M} (𝓛 : Logic 𝓤) (mem : Memory → SProp
         qed 𝓛 (Closed κ q b o γ zs []) ∵
         suffices ! _ (ends_at 𝓛 take_out.ended stayed (take_out.clauses 𝓛 mem run)
         (((κ, tt), (q, tt), tt, x, at), tt) vunit tt (zs, (tt, (tt, tt))) (l, (tt, (tt, tt)))) $ says ! e $
-        nothing ! $ move ! (3 ∷ 0 ∷ []) $ join ! $ frame ! $ list-owned ! b o ys zs l room $
-        nothing ! $ number-owned ! k gk $ fjoin ! $ number-owned ! n gn $ fjoin ! $ move ! (1 ∷ 0 ∷ []) $ fjoin ! $ frame ! $
+        nothing ! $ move ! (3 ∷ 0 ∷ []) $ join ! $ frame ! $ list_owned ! b o ys zs l room $
+        nothing ! $ number_owned ! k gk $ fjoin ! $ number_owned ! n gn $ fjoin ! $ move ! (1 ∷ 0 ∷ []) $ fjoin ! $ frame ! $
         feq_i ! (List Val) (vunit ∷ []) (vunit ∷ []) refl $ done !
 
     -- where the loop stands, the entry in hand, and the list there
@@ -133,22 +133,22 @@ module _ {M : Type 1} {𝓤 : Ura M} (𝓛 : Logic 𝓤) (mem : Memory → SProp
           (tt, record { fits = four less }) $
           sets ! 8 refl refl (bin ! (field_of ! 26 0 refl refl refl) (value_of ! 10 refl) tt) (tt, tt) $
           rewrite ! 8 (λ (p : ℕ). ‵ (fat full_share ty_ptr l₁₀ 0 (vptr b p))) (sym (place_is 4 o i)) refl $
-          entry-out ! full_share zs i b o (is-in less) (λ ge.
+          entry_out ! full_share zs i b o (is-in less) (λ ge.
           -- [list[i]; what it owns; the others; the open borrow; obs; auth; the locals]
           sets ! 8 refl refl (of_opd ! (load ! (from ! (hop ! (look ! 10 refl) (stop !))) (look_raw ! 0 refl)))
-          (typed-entry 𝓛 e ge) $
+          (typed_entry 𝓛 e ge) $
           elem_back ! E.the_row full_share zs i blank_entry (entry_val e ∷ []) b o (is-in less) $
-          sets ! 16 refl refl (of_opd ! (value_of ! 6 refl)) (typed-entry 𝓛 e ge) $
+          sets ! 16 refl refl (of_opd ! (value_of ! 6 refl)) (typed_entry 𝓛 e ge) $
           assigns ! (bin ! (value_of ! 18 refl) (lit ! tt) (record { fits = four less })) (from ! (stop !))
           (store ! 10 refl (tt, record { fits = four less })) $
           sets ! 4 refl refl (bin ! (field_of ! 26 0 refl refl refl) (value_of ! 10 refl) tt) (tt, tt) $
           rewrite ! 4 (λ (p : ℕ). ‵ (fat full_share ty_ptr l₁₂ 0 (vptr b p))) (sym (place_is 4 o i)) refl $
-          entry-out ! full_share zs i b o (is-in less) (λ _.
+          entry_out ! full_share zs i b o (is-in less) (λ _.
           assigns ! (of_opd ! (value_of ! 22 refl)) (from ! (hop ! (look ! 6 refl) (stop !)))
-          (store_raw ! 0 refl (typed-entry 𝓛 m gm)) $
-          move ! (1 ∷ []) $ let_go ! $ entry-owned ! m gm $ move ! (1 ∷ 0 ∷ []) $
+          (store_raw ! 0 refl (typed_entry 𝓛 m gm)) $
+          move ! (1 ∷ []) $ let_go ! $ entry_owned ! m gm $ move ! (1 ∷ 0 ∷ []) $
           elem_put ! E.the_row full_share zs i m (entry_val m ∷ []) b o (is-in less) $
-          assigns_last ! (of_opd ! (value_of ! 16 refl)) (from ! (stop !)) (store ! 20 refl (typed-entry 𝓛 e ge)) $
+          assigns_last ! (of_opd ! (value_of ! 16 refl)) (from ! (stop !)) (store ! 20 refl (typed_entry 𝓛 e ge)) $
           forget ! 4 refl $ forget ! 6 refl $ forget ! 8 refl $ forget ! 10 refl $ forget ! 12 refl $ forget ! 16 refl $
           turned ! far At u (next less ge) (nearer less))))
           (λ over. jumps ! $ exec ! C Λ En mir.t-5 (at_ret En Post) $
@@ -157,8 +157,8 @@ module _ {M : Type 1} {𝓤 : Ura M} (𝓛 : Logic 𝓤) (mem : Memory → SProp
           sets ! 27 refl refl (of_opd ! (unit_lit !)) (tt, tt) $
           returns ! (look ! 27 refl) $
           freed ! 27 refl refl $ freed ! 25 refl refl $ freed ! 23 refl refl $ freed ! 21 refl refl $ freed ! 19 refl refl $
-          freed ! 17 refl refl $ freed-unset ! 15 refl refl $ freed ! 13 refl refl $ freed ! 11 refl refl $
-          freed-unset ! 9 refl refl $ freed-unset ! 7 refl refl $ freed-unset ! 5 refl refl $ freed-unset ! 3 refl refl $
+          freed ! 17 refl refl $ freed_unset ! 15 refl refl $ freed ! 13 refl refl $ freed ! 11 refl refl $
+          freed_unset ! 9 refl refl $ freed_unset ! 7 refl refl $ freed_unset ! 5 refl refl $ freed_unset ! 3 refl refl $
           free0 ! $
           by ! (exits zs same (sym (none_left m u.0 k zs (nltb→le k u.0 over)) ∙ so)))
         where
@@ -222,10 +222,10 @@ module _ {M : Type 1} {𝓤 : Ura M} (𝓛 : Logic 𝓤) (mem : Memory → SProp
         alloc1 ! (λ l₇. alloc1 ! (λ l₈. alloc1 ! (λ l₉. alloc1 ! (λ l₁₀. alloc1 ! (λ l₁₁. alloc1 ! (λ l₁₂. alloc0 ! $ params1 ! $
         pass1 ! (init ! 22 refl (tt, (tt, (record { fits = room.0 }, tt)))) $
         pass1 ! (init ! 20 refl (tt, record { fits = gn })) $ pass1 ! (init ! 18 refl (tt, record { fits = gk })) $ pass0 ! $
-        answered-as ! fm blank_entry (blank-entry-answers 𝓛 mem run fm known-blank) (no_more !) (λ is-blank.
-        puts ! 16 refl refl (typed-entry 𝓛 blank_entry is-blank) $
+        answered_as ! fm blank_entry (blank_entry_answers 𝓛 mem run fm known-blank) (no_more !) (λ is-blank.
+        puts ! 16 refl refl (typed_entry 𝓛 blank_entry is-blank) $
         sets ! 10 refl refl (of_opd ! (field_of ! 22 1 refl refl refl)) (tt, record { fits = room.0 }) $
-        answered-as ! fm (min n (length ys)) (least-answers 𝓛 mem run fm known-least n (length ys) gn room.0)
+        answered_as ! fm (min n (length ys)) (least_answers 𝓛 mem run fm known-least n (length ys) gn room.0)
         (and_then ! (value_of ! 20 refl) (and_then ! (value_of ! 10 refl) (no_more !))) (λ _.
         puts ! 14 refl refl (tt, record { fits = end_fits }) $
         move ! (27 ∷ []) $ fsplit ! $ fsplit ! $ move ! (1 ∷ []) $ fsplit ! $ move ! (30 ∷ []) $ split ! $

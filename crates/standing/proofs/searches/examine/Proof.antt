@@ -4,7 +4,7 @@ use mathlib.Core.Bool.{◌&&◌}
 use mathlib.Core.Logic.{⊎_elim}
 use borrow.Author.Rules.{rules}
 use Rattle.standing.specs.Searching.{entry_fits, examined}
-use Rattle.standing.proofs.Cases.{first_passes, first-fails}
+use Rattle.standing.proofs.Cases.{first_passes, first_fails}
 use Rattle.standing.proofs.searches.examine.Statement.{statement}
 use Rattle.standing.proofs.searches.examine.Tie as tie
 
@@ -37,7 +37,7 @@ returns c =
     let a = j.before.args in
     let here = entry_fits a.s a.e in
     let so_far : j.if1.ranges ≡ a.s.fits && here =
-    ⊎_elim (λ w. first_passes here w.0.taken (w.2 ∙ w.1.ensures)) (λ w. first-fails here w.0.left (w.1 ∙ w.0.left))
+    ⊎_elim (λ w. first_passes here w.0.taken (w.2 ∙ w.1.ensures)) (λ w. first_fails here w.0.left (w.1 ∙ w.0.left))
     j.if1.branch in
     rw (
       so_far,

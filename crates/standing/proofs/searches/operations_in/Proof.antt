@@ -8,9 +8,9 @@ use lib.ListN.{length}
 use borrow.Author.Tests.{eq-eqb, ne_eqb}
 use borrow.Author.Rules.{rules}
 use Rattle.meaning.specs.Sets.{mem, union_of}
-use Rattle.table.proofs.Unions.{Uniting, turn-united, all-united}
+use Rattle.table.proofs.Unions.{Uniting, turn_united, all_united}
 use Rattle.standing.specs.Searching.{operations_in, bit_of}
-use Rattle.standing.proofs.SmallSets.{bits_of, length-bits, bit_at}
+use Rattle.standing.proofs.SmallSets.{bits_of, length_bits, bit_at}
 use Rattle.standing.proofs.searches.operations_in.Statement.{statement}
 use Rattle.standing.proofs.searches.operations_in.Tie as tie
 
@@ -50,8 +50,8 @@ loop-again c =
     let all : length a.t2 ≡ 64 = search rules in
     let within = c.before.before.before.least.ensures in
     let turn =
-    turn-united (bits_of a.positions a.t2) _ l.out l.rest l.p l.invariant c.if1.out
-    (omega (arith, length-bits a.positions a.t2 all, within, c.before.loop-test.true)) in
+    turn_united (bits_of a.positions a.t2) _ l.out l.rest l.p l.invariant c.if1.out
+    (omega (arith, length_bits a.positions a.t2 all, within, c.before.loop-test.true)) in
     let here = bit_at a.positions a.t2 all l.p (omega (arith, within, c.before.loop-test.true)) in
     ⊎_elim
     (λ w. turn (rw (eq-eqb _ _ w.0.taken, here) (w.4 ∙ w.3.ensures ∙ ap (λ n. bit_or l.out (bit_of n)) w.2.ensures)))
@@ -63,8 +63,8 @@ unfolding operations_in
 returns c =
     let a = c.before.before.before.args in
     let all : length a.t2 ≡ 64 = search rules in
-    all-united _ _ _ _ _ c.before.loop.invariant
-    (omega (arith, length-bits a.positions a.t2 all, c.before.before.least.ensures, c.loop-test.false))
+    all_united _ _ _ _ _ c.before.loop.invariant
+    (omega (arith, length_bits a.positions a.t2 all, c.before.before.least.ensures, c.loop-test.false))
 
 pub operations-in-spec : {M : Type 1} → statement M
 operations-in-spec =

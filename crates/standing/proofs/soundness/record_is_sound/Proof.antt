@@ -8,14 +8,14 @@ use borrow.Author.Rules.{rules}
 use Rattle.table.specs.Soundness.{Sound as TableSound}
 use Rattle.table.proofs.Passing.{test_passed, test_failed}
 use Rattle.standing.specs.Soundness.{RecordSound}
-use Rattle.standing.proofs.RecordTests.{record_test, tests-decide}
+use Rattle.standing.proofs.RecordTests.{record_test, tests_decide}
 use Rattle.standing.proofs.Lengths.{operations_length}
 use Rattle.standing.proofs.soundness.record_is_sound.Statement.{statement}
 use Rattle.standing.proofs.soundness.record_is_sound.Tie as tie
 
 decided : (c : tie.Start) (b : Bool) → (b ≡ true) ↔ TableSound c.args.session.table → (r : Bool)
     → r ≡ record_test c.args.session b → (r ≡ true) ↔ RecordSound c.args.session
-decided c = tests-decide c.args.session (operations_length c.args.session _ c.well_formed.0)
+decided c = tests_decide c.args.session (operations_length c.args.session _ c.well_formed.0)
 
 is-sound-requires : tie.Need-is-sound-requires
 is-sound-requires c κs = search rules

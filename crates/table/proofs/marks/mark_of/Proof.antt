@@ -14,10 +14,10 @@ none-twice-requires : tie.Need-none-twice-requires
 none-twice-requires c κs = ⊎_elim (λ w. omega arith) (λ w. omega arith) c.if1.branch
 
 -- the operations looked at are those in use
-in_use : (c : tie.Joined1)
+length_in_use : (c : tie.Joined1)
     → let t = c.before.before.before.args.t in
     take t.positions t.operations ≡ take c.if1.n t.operations
-in_use c =
+length_in_use c =
     let t = c.before.before.before.args.t in
     let all : length t.operations ≡ 64 = (told_whole t _ c.before.before.before.well_formed.0).operations in
     let n-is : c.if1.n ≡ min t.positions (length t.operations) =
@@ -26,11 +26,11 @@ in_use c =
 
 returns : tie.Need-returns
 unfolding mark_of
-returns c = rw (in_use c.before.before, ← c.before.none-twice.ensures, c.if2.true)
+returns c = rw (length_in_use c.before.before, ← c.before.none-twice.ensures, c.if2.true)
 
 returns-2 : tie.Need-returns-2
 unfolding mark_of
-returns-2 c = rw (in_use c.before.before, ← c.before.none-twice.ensures, c.if2.false)
+returns-2 c = rw (length_in_use c.before.before, ← c.before.none-twice.ensures, c.if2.false)
 
 pub mark-of-spec : {M : Type 1} → statement M
 mark-of-spec = tie.close (tie.spec none-twice-requires returns returns-2)

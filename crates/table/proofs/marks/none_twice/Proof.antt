@@ -5,7 +5,7 @@ use native.Mathlib.Omega.{arith}
 use borrow.Author.Rules.{rules}
 use lib.ListN.{take, drop}
 use Rattle.table.specs.Marks.{none_twice}
-use Rattle.table.proofs.Repeats.{twice-here, twice-behind, twice-nowhere}
+use Rattle.table.proofs.Repeats.{twice_here, twice_behind, twice_nowhere}
 use Rattle.table.proofs.marks.none_twice.Statement.{statement}
 use Rattle.table.proofs.marks.none_twice.Tie as tie
 
@@ -32,7 +32,7 @@ returns c =
     let t = c.before.before.before in
     let s = t.before.before in
     let again = sym c.before.stands.ensures ∙ c.if1.true in
-    sym (t.before.loop.invariant ∙ twice-here _ _ _ (search rules) s.requires t.loop-test.true again)
+    sym (t.before.loop.invariant ∙ twice_here _ _ _ (search rules) s.requires t.loop-test.true again)
 
 add-p : tie.Need-overflow-add-p invariant-loop decreases-loop
 add-p c = omega arith
@@ -45,10 +45,10 @@ loop-again c =
     let t = c.before.before.before in
     let s = t.before.before in
     let once = sym c.before.stands.ensures ∙ c.if1.false in
-    t.before.loop.invariant ∙ twice-behind _ _ _ (search rules) s.requires t.loop-test.true once
+    t.before.loop.invariant ∙ twice_behind _ _ _ (search rules) s.requires t.loop-test.true once
 
 returns-2 : tie.Need-returns-2 invariant-loop decreases-loop
-returns-2 c = sym (c.before.loop.invariant ∙ twice-nowhere _ _ _ c.loop-test.false)
+returns-2 c = sym (c.before.loop.invariant ∙ twice_nowhere _ _ _ c.loop-test.false)
 
 pub none-twice-spec : {M : Type 1} → statement M
 none-twice-spec =

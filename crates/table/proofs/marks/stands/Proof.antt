@@ -5,7 +5,7 @@ use native.Mathlib.Omega.{arith}
 use borrow.Author.Rules.{rules}
 use lib.ListN.{take, drop}
 use Rattle.table.specs.Marks.{among}
-use Rattle.table.proofs.Repeats.{stands_here, stands-behind, stands-nowhere}
+use Rattle.table.proofs.Repeats.{stands_here, stands_behind, stands_nowhere}
 use Rattle.table.proofs.marks.stands.Statement.{statement}
 use Rattle.table.proofs.marks.stands.Tie as tie
 
@@ -37,10 +37,10 @@ loop-again : tie.Need-loop-preserved invariant-loop decreases-loop
 loop-again c =
     let t = c.before.before in
     let s = t.before.before in
-    t.before.loop.invariant ∙ stands-behind _ _ _ (search rules) s.requires t.loop-test.true _ c.if1.false
+    t.before.loop.invariant ∙ stands_behind _ _ _ (search rules) s.requires t.loop-test.true _ c.if1.false
 
 returns-2 : tie.Need-returns-2 invariant-loop decreases-loop
-returns-2 c = sym (c.before.loop.invariant ∙ stands-nowhere _ _ _ c.loop-test.false _)
+returns-2 c = sym (c.before.loop.invariant ∙ stands_nowhere _ _ _ c.loop-test.false _)
 
 pub stands-spec : {M : Type 1} → statement M
 stands-spec =

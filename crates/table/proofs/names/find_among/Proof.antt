@@ -8,7 +8,7 @@ use borrow.Author.Rules.{rules}
 use lib.ListN.{length, take, get_or, length-take}
 use Rattle.meaning.specs.Names.{Name, key, same}
 use Rattle.table.specs.Cells.{spellings}
-use Rattle.table.proofs.Finding.{Unfound, none-searched, one-more-searched, found_here, found_nowhere}
+use Rattle.table.proofs.Finding.{Unfound, none_searched, one_more_searched, found_here, found_nowhere}
 use Rattle.table.proofs.Spellings.{length_spellings, spelling_read}
 use Rattle.table.proofs.names.find_among.Statement.{statement}
 use Rattle.table.proofs.names.find_among.Tie as tie
@@ -45,7 +45,7 @@ compared c =
     rw read c.same_name.ensures
 
 loop-holds : tie.Need-loop-init invariant-loop decreases-loop
-loop-holds c = none-searched (searched c.before.before.before) _
+loop-holds c = none_searched (searched c.before.before.before) _
 
 returns : tie.Need-returns invariant-loop decreases-loop
 returns c =
@@ -93,7 +93,7 @@ loop-again : tie.Need-loop-preserved invariant-loop decreases-loop
 loop-again c =
     let l = c.before.before.before.before.before.before.before in
     let s = from l in
-    one-more-searched (searched s) _ _ l.loop.invariant (omega (arith, counted s)) (sym (compared c.before) ∙ c.if2.false)
+    one_more_searched (searched s) _ _ l.loop.invariant (omega (arith, counted s)) (sym (compared c.before) ∙ c.if2.false)
 
 returns-3 : tie.Need-returns-3 invariant-loop decreases-loop
 returns-3 c =

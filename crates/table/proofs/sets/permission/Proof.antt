@@ -4,7 +4,7 @@ use mathlib.Core.Logic.{⊎_elim}
 use native.Mathlib.Omega.{arith}
 use borrow.Author.Rules.{rules}
 use borrow.Author.Tests.{eq-eqb, ne_eqb}
-use Rattle.table.proofs.Permissions.{Gathering, none-gathered, place-exists, room-for-bit, turn-gathered}
+use Rattle.table.proofs.Permissions.{Gathering, none_gathered, place_exists, room_for_bit, turn_gathered}
 use Rattle.table.proofs.sets.permission.Statement.{statement}
 use Rattle.table.proofs.sets.permission.Tie as tie
 
@@ -16,7 +16,7 @@ decreases-loop positions o operations p₀ out₀ p out = p
 
 loop-holds : tie.Need-loop-init invariant-loop decreases-loop
 loop-holds c =
-    none-gathered c.before.args.t2 c.before.args.positions _ (search rules) _
+    none_gathered c.before.args.t2 c.before.args.positions _ (search rules) _
     (⊎_elim (λ w. omega arith) (λ w. omega arith) c.if1.branch)
 
 sub-p : tie.Need-overflow-sub-p invariant-loop decreases-loop
@@ -26,19 +26,19 @@ mul-out : tie.Need-overflow-mul-out invariant-loop decreases-loop
 mul-out c =
     let l = c.before.before in
     let a = l.before.before.args in
-    omega (arith, room-for-bit a.t2 a.positions _ (search rules) _ _ l.loop.invariant c.before.loop-test.true)
+    omega (arith, room_for_bit a.t2 a.positions _ (search rules) _ _ l.loop.invariant c.before.loop-test.true)
 
 element-copy-out-if2 : tie.Need-element-copy-out-if2 invariant-loop decreases-loop
 element-copy-out-if2 c =
     let l = c.before.before in
     let a = l.before.before.args in
-    place-exists a.t2 a.positions _ (search rules) _ _ l.loop.invariant c.before.loop-test.true
+    place_exists a.t2 a.positions _ (search rules) _ _ l.loop.invariant c.before.loop-test.true
 
 add-out : tie.Need-overflow-add-out invariant-loop decreases-loop
 add-out c =
     let l = c.before.before.before.before in
     let a = l.before.before.args in
-    omega (arith, room-for-bit a.t2 a.positions _ (search rules) _ _ l.loop.invariant c.before.before.before.loop-test.true)
+    omega (arith, room_for_bit a.t2 a.positions _ (search rules) _ _ l.loop.invariant c.before.before.before.loop-test.true)
 
 loop-less : tie.Need-loop-smaller invariant-loop decreases-loop
 loop-less c = omega arith
@@ -47,7 +47,7 @@ loop-again : tie.Need-loop-preserved invariant-loop decreases-loop
 loop-again c =
     let t = c.before.before.before in
     let a = t.before.before.before.args in
-    turn-gathered a.t2 a.positions _ (search rules) _ _ t.before.loop.invariant t.loop-test.true _
+    turn_gathered a.t2 a.positions _ (search rules) _ _ t.before.loop.invariant t.loop-test.true _
     (rw (eq-eqb _ _ c.if2.true) (omega arith))
 
 loop-less-2 : tie.Need-loop-smaller-2 invariant-loop decreases-loop
@@ -57,7 +57,7 @@ loop-again-2 : tie.Need-loop-preserved-2 invariant-loop decreases-loop
 loop-again-2 c =
     let t = c.before.before.before in
     let a = t.before.before.before.args in
-    turn-gathered a.t2 a.positions _ (search rules) _ _ t.before.loop.invariant t.loop-test.true _
+    turn_gathered a.t2 a.positions _ (search rules) _ _ t.before.loop.invariant t.loop-test.true _
     (rw (ne_eqb _ _ c.if2.false) (omega arith))
 
 returns : tie.Need-returns invariant-loop decreases-loop

@@ -8,7 +8,7 @@ use borrow.Author.Tests.{eq-eqb, ne_eqb}
 use lib.Bits.{or_zero_l, or_zero_r}
 use lib.ListN.{length}
 use Rattle.meaning.specs.Sets.{mem, union_of}
-use Rattle.table.proofs.Unions.{Uniting, turn-united, all-united}
+use Rattle.table.proofs.Unions.{Uniting, turn_united, all_united}
 use Rattle.table.proofs.sets.union_among.Statement.{statement}
 use Rattle.table.proofs.sets.union_among.Tie as tie
 
@@ -38,14 +38,14 @@ unfolding mem
 loop-again c =
     let l = c.before.before.loop in
     let rows = c.before.before.before.args.rows.now in
-    let turn = turn-united rows _ l.out l.rest l.p l.invariant c.if1.out c.before.loop-test.true in
+    let turn = turn_united rows _ l.out l.rest l.p l.invariant c.if1.out c.before.loop-test.true in
     ⊎_elim
     (λ w. turn (rw (eq-eqb _ _ w.0.taken) w.2))
     (λ w. turn (rw (ne_eqb _ _ w.0.left, or_zero_r) w.1))
     c.if1.branch
 
 returns : tie.Need-returns invariant-loop decreases-loop
-returns c = all-united _ _ _ _ _ c.before.loop.invariant c.loop-test.false
+returns c = all_united _ _ _ _ _ c.before.loop.invariant c.loop-test.false
 
 pub union-among-spec : {M : Type 1} → statement M
 union-among-spec =

@@ -8,7 +8,7 @@ use lib.ListN.{length}
 use lib.Pow.{pow_pos}
 use Rattle.table.specs.Tests.{each_placed_test}
 use Rattle.table.proofs.Placed.{bit_shifted}
-use Rattle.table.proofs.SoundOperations.{operations-say}
+use Rattle.table.proofs.SoundOperations.{operations_say}
 use Rattle.table.proofs.soundness.each_placed.Statement.{statement}
 use Rattle.table.proofs.soundness.each_placed.Tie as tie
 
@@ -26,7 +26,7 @@ placed-requires c κs =
     let a = c.args in
     let all : length a.operations ≡ 64 = search rules in
     let (few, small, fit) = c.requires in
-    let below = ((operations-say a.operations a.n a.names all few).0 fit).0 in
+    let below = ((operations_say a.operations a.n a.names all few).0 fit).0 in
     (few, λ p h. omega (arith, below p h))
 
 returns : tie.Need-returns

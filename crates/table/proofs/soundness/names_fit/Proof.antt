@@ -3,7 +3,7 @@ use mathlib.Core.Path.{◌≡◌, refl, sym, ◌∙◌}
 use Prim.Native.Nat.{◌-◌}
 use native.Mathlib.Omega.{arith}
 use Rattle.table.specs.Tests.{each, name_at_test, names_test}
-use Rattle.table.proofs.Passing.{test_passed, test_failed, one_passes, one-fails, all-passed}
+use Rattle.table.proofs.Passing.{test_passed, test_failed, one_passes, one_fails, all_passed}
 use Rattle.table.proofs.soundness.names_fit.Statement.{statement}
 use Rattle.table.proofs.soundness.names_fit.Tie as tie
 
@@ -28,7 +28,7 @@ name-fits-requires c κs = omega arith
 returns : tie.Need-returns invariant-loop decreases-loop
 returns c =
     let turn = c.before.before.before in
-    sym (turn.before.loop.invariant ∙ one-fails _ _ _ turn.loop-test.true (test_failed c.before.name-fits.ensures c.if1.true))
+    sym (turn.before.loop.invariant ∙ one_fails _ _ _ turn.loop-test.true (test_failed c.before.name-fits.ensures c.if1.true))
 
 add-i : tie.Need-overflow-add-i invariant-loop decreases-loop
 add-i c = omega arith
@@ -42,7 +42,7 @@ loop-again c =
     turn.before.loop.invariant ∙ one_passes _ _ _ turn.loop-test.true (test_passed c.before.name-fits.ensures c.if1.false)
 
 returns-2 : tie.Need-returns-2 invariant-loop decreases-loop
-returns-2 c = sym (c.before.loop.invariant ∙ all-passed _ _ _ c.loop-test.false)
+returns-2 c = sym (c.before.loop.invariant ∙ all_passed _ _ _ c.loop-test.false)
 
 pub names-fit-spec : {M : Type 1} → statement M
 names-fit-spec =

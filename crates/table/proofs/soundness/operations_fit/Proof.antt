@@ -4,7 +4,7 @@ use Prim.Native.Nat.{◌-◌}
 use native.Mathlib.Omega.{arith}
 use borrow.Author.Rules.{rules}
 use Rattle.table.specs.Tests.{each, operation_at_test, operations_test}
-use Rattle.table.proofs.Passing.{test_passed, test_failed, one_passes, one-fails, all-passed}
+use Rattle.table.proofs.Passing.{test_passed, test_failed, one_passes, one_fails, all_passed}
 use Rattle.table.proofs.soundness.operations_fit.Statement.{statement}
 use Rattle.table.proofs.soundness.operations_fit.Tie as tie
 
@@ -26,7 +26,7 @@ operation-fits-requires c κs = search rules
 returns : tie.Need-returns invariant-loop decreases-loop
 returns c =
     let turn = c.before.before.before in
-    sym (turn.before.loop.invariant ∙ one-fails _ _ _ turn.loop-test.true (test_failed c.before.operation-fits.ensures
+    sym (turn.before.loop.invariant ∙ one_fails _ _ _ turn.loop-test.true (test_failed c.before.operation-fits.ensures
     c.if1.true))
 
 add-p : tie.Need-overflow-add-p invariant-loop decreases-loop
@@ -41,7 +41,7 @@ loop-again c =
     turn.before.loop.invariant ∙ one_passes _ _ _ turn.loop-test.true (test_passed c.before.operation-fits.ensures c.if1.false)
 
 returns-2 : tie.Need-returns-2 invariant-loop decreases-loop
-returns-2 c = sym (c.before.loop.invariant ∙ all-passed _ _ _ c.loop-test.false)
+returns-2 c = sym (c.before.loop.invariant ∙ all_passed _ _ _ c.loop-test.false)
 
 pub operations-fit-spec : {M : Type 1} → statement M
 operations-fit-spec =

@@ -5,7 +5,7 @@ use native.Mathlib.Omega.{arith}
 use borrow.Author.Rules.{rules}
 use lib.Bits.{or_zero_l}
 use lib.ListN.{length, get_or}
-use Rattle.table.proofs.Placed.{bit_shifted, Gathered, one-more-gathered, all-gathered}
+use Rattle.table.proofs.Placed.{bit_shifted, Gathered, one_more_gathered, all_gathered}
 use Rattle.table.proofs.soundness.placed.Statement.{statement}
 use Rattle.table.proofs.soundness.placed.Tie as tie
 
@@ -43,10 +43,10 @@ loop-again c =
     let a = l.before.args in
     let all : length a.t1 ≡ 64 = search rules in
     rw (bit_shifted _ (has-bit c))
-    (one-more-gathered a.t1 a.n l.loop.p l.loop.out l.loop.invariant all l.before.requires.0 c.loop-test.true)
+    (one_more_gathered a.t1 a.n l.loop.p l.loop.out l.loop.invariant all l.before.requires.0 c.loop-test.true)
 
 returns : tie.Need-returns invariant-loop decreases-loop
-returns c = all-gathered _ _ _ _ c.before.loop.invariant c.loop-test.false
+returns c = all_gathered _ _ _ _ c.before.loop.invariant c.loop-test.false
 
 pub placed-spec : {M : Type 1} → statement M
 placed-spec =

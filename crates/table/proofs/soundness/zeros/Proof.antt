@@ -4,7 +4,7 @@ use Prim.Native.Nat.{◌-◌}
 use native.Mathlib.Omega.{arith}
 use borrow.Author.Tests.{eq-eqb, ne_eqb}
 use Rattle.table.specs.Tests.{each, zero_test, zeros_test}
-use Rattle.table.proofs.Passing.{one_passes, one-fails, all-passed}
+use Rattle.table.proofs.Passing.{one_passes, one_fails, all_passed}
 use Rattle.table.proofs.soundness.zeros.Statement.{statement}
 use Rattle.table.proofs.soundness.zeros.Tie as tie
 
@@ -23,7 +23,7 @@ shared-slice-read-if1 c = omega arith
 returns : tie.Need-returns invariant-loop decreases-loop
 returns c =
     let turn = c.before.before in
-    sym (turn.before.loop.invariant ∙ one-fails _ _ _ turn.loop-test.true (ne_eqb _ _ c.if1.true))
+    sym (turn.before.loop.invariant ∙ one_fails _ _ _ turn.loop-test.true (ne_eqb _ _ c.if1.true))
 
 add-k : tie.Need-overflow-add-k invariant-loop decreases-loop
 add-k c = omega arith
@@ -37,7 +37,7 @@ loop-again c =
     turn.before.loop.invariant ∙ one_passes _ _ _ turn.loop-test.true (eq-eqb _ _ c.if1.false)
 
 returns-2 : tie.Need-returns-2 invariant-loop decreases-loop
-returns-2 c = sym (c.before.loop.invariant ∙ all-passed _ _ _ c.loop-test.false)
+returns-2 c = sym (c.before.loop.invariant ∙ all_passed _ _ _ c.loop-test.false)
 
 pub zeros-spec : {M : Type 1} → statement M
 zeros-spec =

@@ -6,7 +6,7 @@ use borrow.Author.Rules.{rules}
 use borrow.Author.Tests.{eq-eqb, ne_eqb}
 use lib.ListN.{length}
 use Rattle.text.specs.Tokens.{blank_byte}
-use Rattle.text.proofs.Spans.{Passed, none_passed, one-more-passed, passed-to-failing, passed-to-end}
+use Rattle.text.proofs.Spans.{Passed, none_passed, one_more_passed, passed_to_failing, passed_to_end}
 use Rattle.text.proofs.tokens.blanks.Statement.{statement}
 use Rattle.text.proofs.tokens.blanks.Tie as tie
 
@@ -28,7 +28,7 @@ class-in-requires c κs = c.before.before.before.before.requires
 returns : tie.Need-returns invariant-loop decreases-loop
 returns c =
     let turn = c.before.before.before in
-    passed-to-failing blank_byte _ _ turn.loop-test.true
+    passed_to_failing blank_byte _ _ turn.loop-test.true
     (rw (← c.before.class-in.ensures) (ne_eqb _ _ c.if1.true))
     turn.before.loop.invariant.1
 
@@ -42,13 +42,13 @@ loop-again : tie.Need-loop-preserved invariant-loop decreases-loop
 loop-again c =
     let turn = c.before.before.before in (
       omega arith,
-      one-more-passed blank_byte _ _ turn.loop-test.true
+      one_more_passed blank_byte _ _ turn.loop-test.true
           (rw (← c.before.class-in.ensures) (eq-eqb _ _ c.if1.false))
           turn.before.loop.invariant.1,
     )
 
 returns-2 : tie.Need-returns-2 invariant-loop decreases-loop
-returns-2 c = passed-to-end blank_byte _ _ c.loop-test.false c.before.loop.invariant.1
+returns-2 c = passed_to_end blank_byte _ _ c.loop-test.false c.before.loop.invariant.1
 
 pub blanks-spec : {M : Type 1} → statement M
 blanks-spec =

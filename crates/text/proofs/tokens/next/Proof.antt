@@ -10,7 +10,7 @@ use lib.ListN.{length, take, drop, length-drop}
 use lib.Seq.{length-take-le}
 use Rattle.text.specs.Tokens.{blank_byte, name_byte}
 use Rattle.text.proofs.Spans.{span_within}
-use Rattle.text.proofs.Ways.{way-nothing, way-word, way-sign}
+use Rattle.text.proofs.Ways.{way_nothing, way_word, way_sign}
 use Rattle.text.proofs.tokens.next.Statement.{statement}
 use Rattle.text.proofs.tokens.next.Tie as tie
 
@@ -39,7 +39,7 @@ part-rest-end c = search rules
 returns : tie.Need-returns
 returns c =
     let b = c.before.before in
-    way-nothing _ _ b.blanks.ensures (left b) (part_to_end (text b) _) c.if1.true
+    way_nothing _ _ b.blanks.ensures (left b) (part_to_end (text b) _) c.if1.true
 
 shared-slice-read-class-in : tie.Need-shared-slice-read-class-in
 shared-slice-read-class-in c = search rules
@@ -73,7 +73,7 @@ add-t22 c =
 returns-2 : tie.Need-returns-2
 returns-2 c =
     let b = c.before.before.before.before.before.before.before.before.before.before in
-    way-word _ _ b.blanks.ensures (left b) c.before.before.before.before.before.class-in.result _ _
+    way_word _ _ b.blanks.ensures (left b) c.before.before.before.before.before.class-in.result _ _
     (part_to_end (text b) _)
     (omega arith)
     c.before.before.before.before.before.class-in.ensures
@@ -90,7 +90,7 @@ add-t12 c = search rules
 returns-3 : tie.Need-returns-3
 returns-3 c =
     let b = c.before.before.before.before.before.before.before in
-    way-sign _ _ b.blanks.ensures (left b) c.before.before.class-in.result _
+    way_sign _ _ b.blanks.ensures (left b) c.before.before.class-in.result _
     (part_to_end (text b) _)
     (omega arith)
     c.before.before.class-in.ensures

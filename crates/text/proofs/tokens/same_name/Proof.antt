@@ -7,7 +7,7 @@ use native.Mathlib.Omega.{arith}
 use lib.ListN.{length, drop}
 use Rattle.meaning.specs.Names.{key, same}
 use Rattle.text.specs.Tokens.{same_name}
-use Rattle.text.proofs.Sames.{lengths_differ_is_false, byte-differs-is-false, equal-bytes, other-bytes, nothing_left}
+use Rattle.text.proofs.Sames.{lengths_differ_is_false, byte_differs_is_false, equal_bytes, other_bytes, nothing_left}
 use Rattle.text.proofs.tokens.same_name.Statement.{statement}
 use Rattle.text.proofs.tokens.same_name.Tie as tie
 
@@ -43,7 +43,7 @@ shared-slice-read-if3-2 c = omega arith
 -- the last bytes differ
 returns-3 : tie.Need-returns-3 invariant-loop decreases-loop
 unfolding key
-returns-3 c = sym (byte-differs-is-false _ _ _ c.if3.true)
+returns-3 c = sym (byte_differs_is_false _ _ _ c.if3.true)
 
 loop-holds : tie.Need-loop-init invariant-loop decreases-loop
 unfolding key
@@ -58,7 +58,7 @@ shared-slice-read-if4-2 c = omega arith
 returns-4 : tie.Need-returns-4 invariant-loop decreases-loop
 returns-4 c =
     let turn = c.before.before.before in
-    sym (turn.before.loop.invariant.1 ∙ other-bytes _ _ _ turn.loop-test.true (omega arith) c.if4.true)
+    sym (turn.before.loop.invariant.1 ∙ other_bytes _ _ _ turn.loop-test.true (omega arith) c.if4.true)
 
 add-i : tie.Need-overflow-add-i invariant-loop decreases-loop
 add-i c = omega arith
@@ -69,7 +69,7 @@ loop-less c = omega arith
 loop-again : tie.Need-loop-preserved invariant-loop decreases-loop
 loop-again c =
     let turn = c.before.before.before in
-    (omega arith, turn.before.loop.invariant.1 ∙ equal-bytes _ _ _ turn.loop-test.true (omega arith) c.if4.false)
+    (omega arith, turn.before.loop.invariant.1 ∙ equal_bytes _ _ _ turn.loop-test.true (omega arith) c.if4.false)
 
 returns-5 : tie.Need-returns-5 invariant-loop decreases-loop
 returns-5 c = sym (c.before.loop.invariant.1 ∙ nothing_left _ _ _ c.loop-test.false (omega arith))

@@ -1,6 +1,6 @@
 -- `talk::take_turn` meets its contract: each kind of line is a law of turns (Turns.antt).
 use mathlib.Core.Path.{refl}
-use Rattle.transcripts.proofs.Turns.{name_within, ask-turned, finish-turned, withdraw-turned, unread-turned}
+use Rattle.transcripts.proofs.Turns.{name_within, ask_turned, finish_turned, withdraw_turned, unread_turned}
 use borrow.Author.Rules.{rules}
 use Rattle.transcripts.proofs.talk.take_turn.Statement.{statement}
 use Rattle.transcripts.proofs.talk.take_turn.Tie as tie
@@ -46,7 +46,7 @@ same_length c = search rules
 
 returns : tie.Need-returns
 returns c =
-    ask-turned _ c.before.before.before.before.before.before.before.before.before.read-line.ensures _
+    ask_turned _ c.before.before.before.before.before.before.before.before.before.read-line.ensures _
     c.before.before.before.before.before.before.before.order.given.1 c.before.before.ask-turn.ensures
 
 same-length-2 : tie.Need-same-length-2
@@ -54,7 +54,7 @@ same-length-2 c = search rules
 
 returns-2 : tie.Need-returns-2
 returns-2 c =
-    finish-turned _ c.before.before.before.before.before.before.before.read-line.ensures _
+    finish_turned _ c.before.before.before.before.before.before.before.read-line.ensures _
     c.before.before.before.before.before.order2.given.1 c.before.before.finish-turn.ensures
 
 same-length-3 : tie.Need-same-length-3
@@ -62,7 +62,7 @@ same-length-3 c = search rules
 
 returns-3 : tie.Need-returns-3
 returns-3 c =
-    withdraw-turned _ c.before.before.before.before.before.before.before.read-line.ensures _
+    withdraw_turned _ c.before.before.before.before.before.before.before.read-line.ensures _
     c.before.before.before.before.before.order3.given.1 c.before.before.withdraw-turn.ensures
 
 same-length-4 : tie.Need-same-length-4
@@ -70,7 +70,7 @@ same-length-4 c = search rules
 
 returns-4 : tie.Need-returns-4
 returns-4 c =
-    unread-turned _ c.before.before.before.before.before.before.read-line.ensures
+    unread_turned _ c.before.before.before.before.before.before.read-line.ensures
     c.before.before.before.before.enum_told.given.1 refl refl c.before.before.Put-refused.ensures
 
 pub take-turn-spec : {M : Type 1} → statement M

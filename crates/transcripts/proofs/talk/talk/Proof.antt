@@ -6,7 +6,7 @@ use lib.ListN.{length, drop, drop_of_length-le}
 use Rattle.wording.specs.Lines.{lines_of}
 use Rattle.wording.proofs.Pieces.{no_lines}
 use Rattle.wording.proofs.Putting.{puts_length}
-use Rattle.transcripts.proofs.Onward.{Told, none_told, all_told, one-more-told, line-within, lines_from}
+use Rattle.transcripts.proofs.Onward.{Told, none_told, all_told, one_more_told, line_within, lines_from}
 use Rattle.transcripts.proofs.talk.talk.Statement.{statement}
 use Rattle.transcripts.proofs.talk.talk.Tie as tie
 
@@ -38,7 +38,7 @@ bytes-before-requires c κs = search rules
 add-end : tie.Need-overflow-add-end invariant-loop decreases-loop
 add-end c =
     let within =
-    line-within c.before.before.before.before.before.before.before.args.input.now c.before.before.before.loop.i
+    line_within c.before.before.before.before.before.before.before.args.input.now c.before.before.before.loop.i
     c.bytes-before.result c.bytes-before.ensures c.before.before.loop-test.true
     in
     omega (arith, within)
@@ -52,7 +52,7 @@ part-take-turn-start c = omega arith
 part-take-turn-end : tie.Need-slice-bounds-take-turn-end invariant-loop decreases-loop
 part-take-turn-end c =
     let within =
-    line-within c.before.before.before.before.before.before.before.args.input.now c.before.before.before.loop.i
+    line_within c.before.before.before.before.before.before.before.args.input.now c.before.before.before.loop.i
     c.bytes-before.result c.bytes-before.ensures c.before.before.loop-test.true
     in
     omega (arith, within)
@@ -76,7 +76,7 @@ loop-again c =
     c.before.before.before.before.before.before.before.before.before.loop-test.true
     c.behind.result c.behind.ensures
     in
-    one-more-told _ _ (rw lines at c.before.before.before.before.before.before.before.before.before.before.loop.invariant)
+    one_more_told _ _ (rw lines at c.before.before.before.before.before.before.before.before.before.before.loop.invariant)
     c.before.before.before.before.take-turn.ensures
 
 same_length : tie.Need-same-length invariant-loop decreases-loop

@@ -3,7 +3,7 @@ use mathlib.Core.Path.{sym}
 use native.Mathlib.Omega.{arith}
 use lib.Seq.{length-take-le}
 use Rattle.text.proofs.Spans.{span_within}
-use Rattle.transcripts.proofs.Wholes.{prints_too_long, table_sound, prints-accepted, prints-refused}
+use Rattle.transcripts.proofs.Wholes.{prints_too_long, table_sound, prints_accepted, prints_refused}
 use borrow.Author.Rules.{rules}
 use Rattle.transcripts.proofs.transcript.transcript.Statement.{statement}
 use Rattle.transcripts.proofs.transcript.transcript.Tie as tie
@@ -50,7 +50,7 @@ same-length-2 c = search rules
 
 returns-2 : tie.Need-returns-2
 returns-2 c =
-    prints-accepted _ _ c.before.before.before.before.before.before.before.before.before.before.bytes-before.ensures _
+    prints_accepted _ _ c.before.before.before.before.before.before.before.before.before.before.bytes-before.ensures _
     c.before.before.before.before.before.before.before.before.compile.ensures
     c.before.before.before.before.before.before.before.before.before.before.before.if1.false
     c.before.before.before.before.before.before.enum_told.given.1 _ c.before.before.before.before.behind.ensures
@@ -61,7 +61,7 @@ same-length-3 c = search rules
 
 returns-3 : tie.Need-returns-3
 returns-3 c =
-    prints-refused _ _ c.before.before.before.before.before.before.before.before.before.bytes-before.ensures _
+    prints_refused _ _ c.before.before.before.before.before.before.before.before.before.bytes-before.ensures _
     c.before.before.before.before.before.before.before.compile.ensures
     c.before.before.before.before.before.before.before.before.before.before.if1.false _
     c.before.before.before.before.before.reply.given.1 c.before.before.put-refused-path.ensures

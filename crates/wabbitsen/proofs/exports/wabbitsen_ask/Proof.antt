@@ -67,16 +67,16 @@ use Rattle.wabbitsen.proofs.records.holding.Met as holding-thm
 use Rattle.wabbitsen.proofs.replies.ask_reply.Symbol as tell-def
 use Rattle.wabbitsen.proofs.replies.ask_reply.Symbol.{name as #ask-reply}
 use Rattle.wabbitsen.proofs.replies.ask_reply.Met as tell-thm
-use Rattle.session.proofs.Answers.{Returns, returned, answered, answered-as, prepared, by-ending}
+use Rattle.session.proofs.Answers.{Returns, returned, answered, answered_as, prepared, by_ending}
 use Rattle.session.proofs.Lent.{ref_to, slice_val}
 use Rattle.session.proofs.Locals.{value_of, field_of, sets, puts, freed}
-use Rattle.session.proofs.Records.{Holds, opens-record, closes-record, unpacks}
-use Rattle.session.proofs.Values.{terminal_val, IsSession, IsTerminal, typed-session, typed-terminal}
+use Rattle.session.proofs.Records.{Holds, opens_record, closes_record, unpacks}
+use Rattle.session.proofs.Values.{terminal_val, IsSession, IsTerminal, typed_session, typed_terminal}
 use Rattle.session.proofs.ListCalls.{Left}
 use Rattle.lines.proofs.LentLocals.{Owed}
-use Rattle.wabbitsen.proofs.Converting.{typed-record, SessionInSays, HoldingSays, session-in-answers, holding-answers}
-use Rattle.wabbitsen.proofs.Replying.{Replied, told_val, IsTold, typed-told, told-owned, heard-val, IsHeard, typed-heard}
-use Rattle.wabbitsen.proofs.Replying.{TellSays, tell-answers}
+use Rattle.wabbitsen.proofs.Converting.{typed_record, SessionInSays, HoldingSays, session_in_answers, holding_answers}
+use Rattle.wabbitsen.proofs.Replying.{Replied, told_val, IsTold, typed_told, told_owned, heard_val, IsHeard, typed_heard}
+use Rattle.wabbitsen.proofs.Replying.{TellSays, tell_answers}
 use Rattle.wabbitsen.proofs.Loans.{Fits, Lent, Back, Going, lends, hands, comes_back}
 use Rattle.wabbitsen.specs.contracts.exports.wabbitsen_ask.Key.{name as #wabbitsen-ask}
 use Rattle.wabbitsen.specs.contracts.exports.wabbitsen_ask as wabbitsen-ask
@@ -135,15 +135,15 @@ module _ {M : Type 1} {𝓤 : Ura M} (𝓛 : Logic 𝓤) (mem : Memory → SProp
       abbrev Answers : AskReply × (Session × List Entry) → Type 0
       Answers = Fits (IsHeard answering) (Asks h ys x ns) ys
 
-      ask-answers : Triple 𝓤 (C #ask) AskSays
+      ask_answers : Triple 𝓤 (C #ask) AskSays
           → Returns 𝓛 C #ask (vptr l 0 ∷ slice_val b' o' ys ∷ terminal_val x ∷ slice_val b'' o'' ns ∷ [])
-          (Lent κ' q' l b' o' γ' h ys (Token ⊛ ‵ Asked)) (λ v. heard-val answering v.0) Answers (Back κ' q' l γ' Token)
-      ask-answers known = prepared 𝓛 (Going κ' q' l b' o' γ' h ys (Token ⊛ ‵ Asked))
+          (Lent κ' q' l b' o' γ' h ys (Token ⊛ ‵ Asked)) (λ v. heard_val answering v.0) Answers (Back κ' q' l γ' Token)
+      ask_answers known = prepared 𝓛 (Going κ' q' l b' o' γ' h ys (Token ⊛ ‵ Asked))
           (lends 𝓛 κ' q' l b' o' γ' ys h gh (Token ⊛ ‵ Asked))
-          (λ a. by-ending 𝓛 fm ask.ended (ask.clauses 𝓛 mem run) (to-ask a) known (λ v. heard-val answering v.0) Answers
+          (λ a. by_ending 𝓛 fm ask.ended (ask.clauses 𝓛 mem run) (to-ask a) known (λ v. heard_val answering v.0) Answers
           (Back κ' q' l γ' Token) (Going κ' q' l b' o' γ' h ys (Token ⊛ ‵ Asked) a) (sem 𝓛 (Owed S.the_row a.0 l a.1))
           (hands 𝓛 κ' q' l b' o' γ' ys a h Token Asked)
-          (λ r w is ws. comes_back 𝓛 κ' q' l b' o' γ' ys a (heard-val answering) (IsHeard answering) (Asks h ys x ns) r w
+          (λ r w is ws. comes_back 𝓛 κ' q' l b' o' γ' ys a (heard_val answering) (IsHeard answering) (Asks h ys x ns) r w
           (ap only (EL.tells Y.the_type Y'.the_laws r (w ∷ []) is))
           (subst (Is Y.the_row r) (EL.tells Y.the_type Y'.the_laws r (w ∷ []) is) is)
           ws.0 ws.1.0 Token (fsep ftrue (fsep ftrue ftrue))))
@@ -167,7 +167,7 @@ module _ {M : Type 1} {𝓤 : Ura M} (𝓛 : Logic 𝓤) (mem : Memory → SProp
         (told_val r) r (y, (zs, (tt, (tt, tt)))) (tt, (len, (tt, (tt, tt))))) $
         says ! so $ move ! (2 ∷ []) $ split ! $ move ! (0 ∷ 4 ∷ []) $ join ! $ move ! (3 ∷ 0 ∷ []) $ join ! $ frame ! $
         nothing ! $ nothing ! $ fjoin ! $ nothing ! $ fjoin ! $ move ! (1 ∷ 0 ∷ []) $ fjoin ! $ move ! (1 ∷ 0 ∷ []) $ fjoin ! $
-        frame ! $ told-owned ! r gr $ done !
+        frame ! $ told_owned ! r gr $ done !
 
     -- ---- the walk
     module _ (gx : IsTerminal x) (𝓣 : Tables 𝓤 H) (known-session-in : Triple 𝓤 (𝓣.C #session-in) (SessionInSays 𝓛 mem run))
@@ -187,42 +187,42 @@ module _ {M : Type 1} {𝓤 : Ura M} (𝓛 : Logic 𝓤) (mem : Memory → SProp
           alloc1 ! (λ l₀. alloc1 ! (λ l₁. alloc1 ! (λ l₂. alloc1 ! (λ l₃. alloc1 ! (λ l₄. alloc1 ! (λ l₅. alloc1 ! (λ l₆.
           alloc1 ! (λ l₇. alloc1 ! (λ l₈. alloc1 ! (λ l₉. alloc1 ! (λ l₁₀. alloc1 ! (λ l₁₁. alloc1 ! (λ l₁₂. alloc0 ! $ params1 ! $
           pass1 ! (init ! 22 refl (tt, tt)) $ pass1 ! (init ! 20 refl (tt, (tt, (record { fits = room.0 }, tt)))) $
-          pass1 ! (init ! 18 refl (typed-terminal 𝓛 x gx)) $
+          pass1 ! (init ! 18 refl (typed_terminal 𝓛 x gx)) $
           pass1 ! (init ! 16 refl (tt, (tt, (record { fits = room-n.0 }, tt)))) $ pass0 ! $
           move ! (26 ∷ 27 ∷ []) $ unpacks ! $ join ! $ move ! (1 ∷ 2 ∷ []) $
           -- [what the record's reference owns; its token; the terminal and the name; the list with its token; the locals]
-          opens-record ! tt R.the_type R'.the_laws (named 0) b o z (λ g.
+          opens_record ! tt R.the_type R'.the_laws (named 0) b o z (λ g.
           -- [the record's cell; its open borrow; what tells its value, twice; the terminal and the name; the list; the locals]
-          sets ! 20 refl refl (of_opd ! (load ! (from ! (hop ! (look ! 28 refl) (stop !))) (look_raw ! 0 refl))) (typed-record 𝓛 z g) $
-          answered-as ! fm (session_in z) (session-in-answers 𝓛 mem run fm z g known-session-in)
+          sets ! 20 refl refl (of_opd ! (load ! (from ! (hop ! (look ! 28 refl) (stop !))) (look_raw ! 0 refl))) (typed_record 𝓛 z g) $
+          answered_as ! fm (session_in z) (session_in_answers 𝓛 mem run fm z g known-session-in)
           (and_then ! (value_of ! 20 refl) (no_more !)) (λ gh.
-          puts ! 14 refl refl (typed-session 𝓛 (session_in z) gh) $
-          sets ! 18 refl refl (of_opd ! (value_of ! 14 refl)) (typed-session 𝓛 (session_in z) gh) $
+          puts ! 14 refl refl (typed_session 𝓛 (session_in z) gh) $
+          sets ! 18 refl refl (of_opd ! (value_of ! 14 refl)) (typed_session 𝓛 (session_in z) gh) $
           sets ! 12 refl refl (addr ! (from ! (stop !))) (tt, tt) $
           sets ! 10 refl refl (addr ! (from ! (fld ! refl (hop ! (look_in ! 26 (sub ! 0 refl (whole !))) (stop !))))) (tt, tt) $
           sets ! 8 refl refl (agg ! (and_then ! (value_of ! 10 refl) (and_then ! (field_of ! 26 1 refl refl refl) (no_more !))))
           (tt, (tt, (record { fits = room.0 }, tt))) $
           -- the session's cell, the list, the terminal and the name go to the call
           move ! (5 ∷ 4 ∷ []) $ join ! $ move ! (17 ∷ 0 ∷ []) $ join ! $
-          returned ! fm (ask-answers fm l₆ (session_in z) gh known-ask)
+          returned ! fm (ask_answers fm l₆ (session_in z) gh known-ask)
           (and_then ! (value_of ! 10 refl) (and_then ! (value_of ! 6 refl) (and_then ! (value_of ! 21 refl)
           (and_then ! (value_of ! 19 refl) (no_more !))))) (λ v came.
           -- what comes back is put into order
           split ! $ move ! (1 ∷ []) $ split ! $ move ! (3 ∷ 4 ∷ 5 ∷ 6 ∷ 0 ∷ 1 ∷ 2 ∷ 19 ∷ []) $
           -- [the record's cell; its open borrow; what tells its value, twice; what is left of the list; the name's token; the session's
           -- local; the others]
-          puts ! 18 refl refl (typed-heard answering {𝓛 = 𝓛} v.0 came.0) $
-          assigns ! (of_opd ! (value_of ! 6 refl)) (from ! (stop !)) (store ! 16 refl (typed-session 𝓛 v.1.0 came.1.0)) $
-          answered-as ! fm (holding z v.1.0) (holding-answers 𝓛 mem run fm z g known-holding v.1.0 came.1.0)
+          puts ! 18 refl refl (typed_heard answering {𝓛 = 𝓛} v.0 came.0) $
+          assigns ! (of_opd ! (value_of ! 6 refl)) (from ! (stop !)) (store ! 16 refl (typed_session 𝓛 v.1.0 came.1.0)) $
+          answered_as ! fm (holding z v.1.0) (holding_answers 𝓛 mem run fm z g known-holding v.1.0 came.1.0)
           (and_then ! (value_of ! 20 refl) (and_then ! (value_of ! 16 refl) (no_more !))) (λ gy.
-          puts ! 8 refl refl (typed-record 𝓛 (holding z v.1.0) gy) $
+          puts ! 8 refl refl (typed_record 𝓛 (holding z v.1.0) gy) $
           assigns ! (of_opd ! (value_of ! 8 refl)) (from ! (hop ! (look ! 28 refl) (stop !)))
-          (store_raw ! 0 refl (typed-record 𝓛 (holding z v.1.0) gy)) $
-          closes-record ! tt R.the_type R'.the_laws (named 0) b o R'.the_plain (holding z v.1.0) gy $
+          (store_raw ! 0 refl (typed_record 𝓛 (holding z v.1.0) gy)) $
+          closes_record ! tt R.the_type R'.the_laws (named 0) b o R'.the_plain (holding z v.1.0) gy $
           -- [what the record's reference owns; its token; what is left of the list; the name's token; the session's local; the others]
-          answered ! fm (tell-answers answering 𝓤 𝓛 fm known-tell v.0 came.0) (and_then ! (value_of ! 16 refl) (no_more !))
+          answered ! fm (tell_answers answering 𝓤 𝓛 fm known-tell v.0 came.0) (and_then ! (value_of ! 16 refl) (no_more !))
           (λ t told.
-          puts ! 28 refl refl (typed-told {𝓛 = 𝓛} t told.0) $
+          puts ! 28 refl refl (typed_told {𝓛 = 𝓛} t told.0) $
           returns ! (look ! 28 refl) $ freed ! 28 refl refl $ freed ! 26 refl refl $ freed ! 24 refl refl $ freed ! 22 refl refl $
           freed ! 20 refl refl $ freed ! 18 refl refl $ freed ! 4 refl refl $ freed ! 14 refl refl $ freed ! 12 refl refl $
           freed ! 10 refl refl $ freed ! 8 refl refl $ freed ! 6 refl refl $ freed ! 4 refl refl $ free0 ! $

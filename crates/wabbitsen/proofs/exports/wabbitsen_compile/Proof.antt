@@ -52,12 +52,12 @@ use Rattle.compiler.proofs.readers.compile.Met as compile-thm
 use Rattle.wabbitsen.proofs.replies.compile_reply.Symbol as tell-def
 use Rattle.wabbitsen.proofs.replies.compile_reply.Symbol.{name as #compile-reply}
 use Rattle.wabbitsen.proofs.replies.compile_reply.Met as tell-thm
-use Rattle.session.proofs.Answers.{Returns, returned, answered, by-contract}
+use Rattle.session.proofs.Answers.{Returns, returned, answered, by_contract}
 use Rattle.session.proofs.Lent.{ref_to, slice_val}
 use Rattle.session.proofs.Locals.{value_of, field_of, puts, freed}
-use Rattle.session.proofs.Records.{Holds, opens-record, closes-record}
-use Rattle.session.proofs.Values.{IsTable, typed-table}
-use Rattle.wabbitsen.proofs.Replying.{Replied, told_val, IsTold, typed-told, told-owned, IsHeard, TellSays, tell-answers}
+use Rattle.session.proofs.Records.{Holds, opens_record, closes_record}
+use Rattle.session.proofs.Values.{IsTable, typed_table}
+use Rattle.wabbitsen.proofs.Replying.{Replied, told_val, IsTold, typed_told, told_owned, IsHeard, TellSays, tell_answers}
 use Rattle.wabbitsen.specs.contracts.exports.wabbitsen_compile.Key.{name as #wabbitsen-compile}
 use Rattle.wabbitsen.specs.contracts.exports.wabbitsen_compile as wabbitsen-compile
 use Rattle.wabbitsen.proofs.exports.wabbitsen_compile.Statement as stated
@@ -103,7 +103,7 @@ module _ {M : Type 1} {𝓤 : Ura M} (𝓛 : Logic 𝓤) (mem : Memory → SProp
     compile-answers : {C : Calls 𝓤 H} → FmC 𝓤 H 𝓛.laws C → Triple 𝓤 (C #compile) CompileSays
         → Returns 𝓛 C #compile (slice_val b o ns ∷ []) (‵ Text ⊛ ‵ (flft κ q)) compiled-val
         (λ v. IsCompiled v × Compiles ns v) (λ _. ‵ (flft κ q))
-    compile-answers fm known = by-contract 𝓛 fm compile.ended (compile.clauses 𝓛 mem run)
+    compile-answers fm known = by_contract 𝓛 fm compile.ended (compile.clauses 𝓛 mem run)
         (((κ, tt), (q, tt), tt, (ref_to b o γ ns, tt), (slice_val b o ns ∷ [], tt)), tt) known
         compiled-val (LL.tells O.the_type O'.the_laws) (λ v. Compiles ns v) (λ v ws. id⊢ 𝓤 _)
         (‵ Text ⊛ ‵ (flft κ q)) (‵ (flft κ q)) (emp 𝓤)
@@ -128,7 +128,7 @@ module _ {M : Type 1} {𝓤 : Ura M} (𝓛 : Logic 𝓤) (mem : Memory → SProp
         suffices ! _ (ends_at 𝓛 wabbitsen-compile.ended stayed (wabbitsen-compile.clauses 𝓛 mem run)
         (((κ, (κ', tt)), (q, (q', tt)), tt, args, at), tt) (told_val r) r (tt, (y, tt)) (tt, (tt, tt))) $
         says ! so $ nothing ! $ move ! (2 ∷ 0 ∷ []) $ join ! $ move ! (2 ∷ 0 ∷ []) $ join ! $ frame ! $
-        nothing ! $ move ! (1 ∷ 0 ∷ []) $ fjoin ! $ nothing ! $ fjoin ! $ frame ! $ told-owned ! r gr $ done !
+        nothing ! $ move ! (1 ∷ 0 ∷ []) $ fjoin ! $ nothing ! $ fjoin ! $ frame ! $ told_owned ! r gr $ done !
 
     -- ---- the walk
     module _ (𝓣 : Tables 𝓤 H) (known-compile : Triple 𝓤 (𝓣.C #compile) CompileSays)
@@ -150,15 +150,15 @@ module _ {M : Type 1} {𝓤 : Ura M} (𝓛 : Logic 𝓤) (mem : Memory → SProp
           -- the text goes to `compile`
           returned ! fm (compile-answers fm known-compile) (and_then ! (value_of ! 6 refl) (no_more !)) (λ v made.
           puts ! 3 refl refl ((LL.lawful O.the_type O'.the_laws 𝓛).typed v _ made.0).0 $ move ! (1 ∷ 2 ∷ []) $
-          opens-record ! tt B.the_type B'.the_laws (named 1) b' o' x (λ g.
+          opens_record ! tt B.the_type B'.the_laws (named 1) b' o' x (λ g.
           -- [the table's cell; its open borrow; what tells its value, twice; the text's token; the locals]
           assigns ! (of_opd ! (field_of ! 5 1 refl refl refl)) (from ! (hop ! (look ! 7 refl) (stop !)))
-          (store_raw ! 0 refl (typed-table 𝓛 v.table (is-table v made.0))) $
-          closes-record ! tt B.the_type B'.the_laws (named 1) b' o' B'.the_plain v.table (is-table v made.0) $
+          (store_raw ! 0 refl (typed_table 𝓛 v.table (is-table v made.0))) $
+          closes_record ! tt B.the_type B'.the_laws (named 1) b' o' B'.the_plain v.table (is-table v made.0) $
           -- [what the table's reference owns; its token; the text's token; the locals]
-          answered ! fm (tell-answers answering 𝓤 𝓛 fm known-tell v.reply (is_reply v made.0))
+          answered ! fm (tell_answers answering 𝓤 𝓛 fm known-tell v.reply (is_reply v made.0))
           (and_then ! (field_of ! 3 0 refl refl refl) (no_more !)) (λ t told.
-          puts ! 9 refl refl (typed-told {𝓛 = 𝓛} t told.0) $
+          puts ! 9 refl refl (typed_told {𝓛 = 𝓛} t told.0) $
           returns ! (look ! 9 refl) $ freed ! 9 refl refl $ freed ! 7 refl refl $ freed ! 5 refl refl $ freed ! 3 refl refl $ free0 ! $
           by ! (exits t v.table told.0 (record { reply = v.reply; compiles = made.1; is_reply = told.1 })))))))))
 

@@ -23,7 +23,7 @@ use Rattle.wabbitsen.proofs.replies.finish_reply.Met as tell-thm
 use Rattle.wabbitsen.proofs.Converting.{SessionInSays, HoldingSays}
 use Rattle.wabbitsen.proofs.Replying.{TellSays}
 use Rattle.wabbitsen.proofs.Calling.{CallSays}
-use Rattle.wabbitsen.proofs.FinishWithdraw.{ByTerminal, answering, called-meets}
+use Rattle.wabbitsen.proofs.FinishWithdraw.{ByTerminal, answering, called_meets}
 use Rattle.wabbitsen.specs.contracts.exports.wabbitsen_finish.Key.{name as #wabbitsen-finish}
 use Rattle.wabbitsen.specs.contracts.exports.wabbitsen_finish as wabbitsen-finish
 use Rattle.wabbitsen.proofs.exports.wabbitsen_finish.Statement as stated
@@ -46,7 +46,7 @@ unfolding code.routine tables_of
 wabbitsen-finish-spec 𝓤 𝓛 𝓜 𝓡 =
     entered 𝓤 𝓛.H (triple_of 𝓛 wabbitsen-finish.signature (wabbitsen-finish.spec 𝓛 𝓜.mem 𝓡.run))
     (tables 𝓤 𝓛.H 𝓜 𝓡 code.env).C (tables 𝓤 𝓛.H 𝓜 𝓡 code.env).Λ #wabbitsen-finish code.function (code.unfolded 𝓤 𝓛.H 𝓜 𝓡)
-    (called-meets called 𝓛 𝓜.mem 𝓡.run (tables_of 𝓤 𝓛.H 𝓜 (tables 𝓤 𝓛.H 𝓜 𝓡 code.env))
+    (called_meets called 𝓛 𝓜.mem 𝓡.run (tables_of 𝓤 𝓛.H 𝓜 (tables 𝓤 𝓛.H 𝓜 𝓡 code.env))
     (cited 𝓤 𝓛.H (SessionInSays 𝓛 𝓜.mem 𝓡.run) 𝓜 𝓡 code.env #session-in session-in-def.routine
     code.calls-wabbitsen::records::session-in (session-in-thm.met 𝓤 𝓛 𝓜 𝓡))
     (cited 𝓤 𝓛.H (CallSays N.the_type N'.the_laws called 𝓤 𝓛) 𝓜 𝓡 code.env #finish call-def.routine

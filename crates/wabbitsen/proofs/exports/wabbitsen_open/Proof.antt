@@ -61,15 +61,15 @@ use Rattle.wabbitsen.proofs.records.holding.Met as holding-thm
 use Rattle.wabbitsen.proofs.replies.open_reply.Symbol as tell-def
 use Rattle.wabbitsen.proofs.replies.open_reply.Symbol.{name as #open-reply}
 use Rattle.wabbitsen.proofs.replies.open_reply.Met as tell-thm
-use Rattle.session.proofs.Answers.{returned, answered, answered-as}
+use Rattle.session.proofs.Answers.{returned, answered, answered_as}
 use Rattle.session.proofs.Lent.{ref_to, slice_val}
 use Rattle.session.proofs.Locals.{value_of, field_of, sets, puts, freed}
-use Rattle.session.proofs.Records.{Holds, opens-record, closes-record, unpacks}
-use Rattle.session.proofs.Values.{typed-session, typed-table, table-owned}
+use Rattle.session.proofs.Records.{Holds, opens_record, closes_record, unpacks}
+use Rattle.session.proofs.Values.{typed_session, typed_table, table_owned}
 use Rattle.session.proofs.ListCalls.{Left}
-use Rattle.wabbitsen.proofs.Converting.{typed-record, SessionInSays, HoldingSays, session-in-answers, holding-answers}
-use Rattle.wabbitsen.proofs.Replying.{Replied, told_val, IsTold, typed-told, told-owned, typed-heard, TellSays, tell-answers}
-use Rattle.wabbitsen.proofs.Calling.{Called, replied, CallSays, call-answers}
+use Rattle.wabbitsen.proofs.Converting.{typed_record, SessionInSays, HoldingSays, session_in_answers, holding_answers}
+use Rattle.wabbitsen.proofs.Replying.{Replied, told_val, IsTold, typed_told, told_owned, typed_heard, TellSays, tell_answers}
+use Rattle.wabbitsen.proofs.Calling.{Called, replied, CallSays, call_answers}
 use Rattle.wabbitsen.specs.contracts.exports.wabbitsen_open.Key.{name as #wabbitsen-open}
 use Rattle.wabbitsen.specs.contracts.exports.wabbitsen_open as wabbitsen-open
 use Rattle.wabbitsen.proofs.exports.wabbitsen_open.Statement as stated
@@ -122,7 +122,7 @@ module _ {M : Type 1} {𝓤 : Ura M} (𝓛 : Logic 𝓤) (mem : Memory → SProp
         says ! so $ nothing ! $ move ! (4 ∷ 0 ∷ []) $ join ! $ move ! (3 ∷ []) $ split ! $ move ! (0 ∷ 2 ∷ []) $ join ! $
         move ! (3 ∷ 0 ∷ []) $ join ! $ frame ! $
         nothing ! $ nothing ! $ fjoin ! $ move ! (1 ∷ 0 ∷ []) $ fjoin ! $ move ! (1 ∷ 0 ∷ []) $ fjoin ! $
-        frame ! $ told-owned ! r gr $ done !
+        frame ! $ told_owned ! r gr $ done !
 
     -- ---- the walk
     module _ (𝓣 : Tables 𝓤 H) (known-session-in : Triple 𝓤 (𝓣.C #session-in) (SessionInSays 𝓛 mem run))
@@ -147,13 +147,13 @@ module _ {M : Type 1} {𝓤 : Ura M} (𝓛 : Logic 𝓤) (mem : Memory → SProp
           split ! $ move ! (2 ∷ []) $ fsplit ! $ fsplit3 ! $ drop ! $ drop ! $ move ! (4 ∷ 5 ∷ 0 ∷ 2 ∷ 6 ∷ []) $
           move ! (5 ∷ 6 ∷ []) $ drop ! $ drop ! $
           -- [what the record's reference owns; its token; the table's shared borrow; its token; the list with its token; the locals]
-          opens-record ! tt R.the_type R'.the_laws (named 0) b o z (λ g.
+          opens_record ! tt R.the_type R'.the_laws (named 0) b o z (λ g.
           -- [the record's cell; its open borrow; what tells its value, twice; the table's borrow; its token; the list; the locals]
-          sets ! 23 refl refl (of_opd ! (load ! (from ! (hop ! (look ! 29 refl) (stop !))) (look_raw ! 0 refl))) (typed-record 𝓛 z g) $
-          answered-as ! fm (session_in z) (session-in-answers 𝓛 mem run fm z g known-session-in)
+          sets ! 23 refl refl (of_opd ! (load ! (from ! (hop ! (look ! 29 refl) (stop !))) (look_raw ! 0 refl))) (typed_record 𝓛 z g) $
+          answered_as ! fm (session_in z) (session_in_answers 𝓛 mem run fm z g known-session-in)
           (and_then ! (value_of ! 23 refl) (no_more !)) (λ gh.
-          puts ! 17 refl refl (typed-session 𝓛 (session_in z) gh) $
-          sets ! 21 refl refl (of_opd ! (value_of ! 17 refl)) (typed-session 𝓛 (session_in z) gh) $
+          puts ! 17 refl refl (typed_session 𝓛 (session_in z) gh) $
+          sets ! 21 refl refl (of_opd ! (value_of ! 17 refl)) (typed_session 𝓛 (session_in z) gh) $
           sets ! 15 refl refl (addr ! (from ! (stop !))) (tt, tt) $
           sets ! 13 refl refl (addr ! (from ! (fld ! refl (hop ! (look_in ! 27 (sub ! 0 refl (whole !))) (stop !))))) (tt, tt) $
           sets ! 11 refl refl (agg ! (and_then ! (value_of ! 13 refl) (and_then ! (field_of ! 27 1 refl refl refl) (no_more !))))
@@ -165,28 +165,28 @@ module _ {M : Type 1} {𝓤 : Ura M} (𝓛 : Logic 𝓤) (mem : Memory → SProp
           spelt ! B.the_row (Is B.the_row) (shows 𝓛 B.the_row) (LL.vals B.the_type B'.the_laws) (LL.tells B.the_type B'.the_laws)
           s x vs b'' o'' $ move ! (1 ∷ []) $
           peeks ! B.the_row (Is B.the_row) (shows 𝓛 B.the_row) x (LL.vals B.the_type B'.the_laws x) (λ gx. move ! (1 ∷ 0 ∷ []) $
-          sets ! 11 refl refl (of_opd ! (load ! (from ! (hop ! (look ! 27 refl) (stop !))) (look_raw ! 0 refl))) (typed-table 𝓛 x gx) $
+          sets ! 11 refl refl (of_opd ! (load ! (from ! (hop ! (look ! 27 refl) (stop !))) (look_raw ! 0 refl))) (typed_table 𝓛 x gx) $
           shuts ! tt B.the_row s x (LL.vals B.the_type B'.the_laws x) b'' o'' $ move ! (1 ∷ []) $ drop ! $
           -- the session's cell, the list and the table go to the call
-          nothing ! $ table-owned ! x gx $ fjoin ! $ nothing ! $ join ! $ move ! (6 ∷ 0 ∷ []) $ join ! $ move ! (20 ∷ 0 ∷ []) $ join ! $
-          returned ! fm (call-answers B.the_type B'.the_laws called 𝓤 𝓛 fm κ' q' l₅ b' o' γ' (session_in z) ys x gh known-open)
+          nothing ! $ table_owned ! x gx $ fjoin ! $ nothing ! $ join ! $ move ! (6 ∷ 0 ∷ []) $ join ! $ move ! (20 ∷ 0 ∷ []) $ join ! $
+          returned ! fm (call_answers B.the_type B'.the_laws called 𝓤 𝓛 fm κ' q' l₅ b' o' γ' (session_in z) ys x gh known-open)
           (and_then ! (value_of ! 13 refl) (and_then ! (value_of ! 9 refl) (and_then ! (value_of ! 7 refl) (no_more !)))) (λ v came.
           -- what comes back is put into order
           split ! $ move ! (1 ∷ []) $ split ! $ move ! (1 ∷ []) $ drop ! $ move ! (3 ∷ 4 ∷ 5 ∷ 6 ∷ 0 ∷ 2 ∷ 1 ∷ 21 ∷ []) $
           -- [the record's cell; its open borrow; what tells its value, twice; what is left of the list; the table's token; the session's
           -- local; the others]
-          puts ! 20 refl refl (typed-heard answering {𝓛 = 𝓛} v.0 came.0) $
-          assigns ! (of_opd ! (value_of ! 6 refl)) (from ! (stop !)) (store ! 18 refl (typed-session 𝓛 v.1.0 came.1.0)) $
-          answered-as ! fm (holding z v.1.0) (holding-answers 𝓛 mem run fm z g known-holding v.1.0 came.1.0)
+          puts ! 20 refl refl (typed_heard answering {𝓛 = 𝓛} v.0 came.0) $
+          assigns ! (of_opd ! (value_of ! 6 refl)) (from ! (stop !)) (store ! 18 refl (typed_session 𝓛 v.1.0 came.1.0)) $
+          answered_as ! fm (holding z v.1.0) (holding_answers 𝓛 mem run fm z g known-holding v.1.0 came.1.0)
           (and_then ! (value_of ! 22 refl) (and_then ! (value_of ! 18 refl) (no_more !))) (λ gy.
-          puts ! 8 refl refl (typed-record 𝓛 (holding z v.1.0) gy) $
+          puts ! 8 refl refl (typed_record 𝓛 (holding z v.1.0) gy) $
           assigns ! (of_opd ! (value_of ! 8 refl)) (from ! (hop ! (look ! 28 refl) (stop !)))
-          (store_raw ! 0 refl (typed-record 𝓛 (holding z v.1.0) gy)) $
-          closes-record ! tt R.the_type R'.the_laws (named 0) b o R'.the_plain (holding z v.1.0) gy $
+          (store_raw ! 0 refl (typed_record 𝓛 (holding z v.1.0) gy)) $
+          closes_record ! tt R.the_type R'.the_laws (named 0) b o R'.the_plain (holding z v.1.0) gy $
           -- [what the record's reference owns; its token; what is left of the list; the table's token; the session's local; the others]
-          answered ! fm (tell-answers answering 𝓤 𝓛 fm known-tell v.0 came.0) (and_then ! (value_of ! 18 refl) (no_more !))
+          answered ! fm (tell_answers answering 𝓤 𝓛 fm known-tell v.0 came.0) (and_then ! (value_of ! 18 refl) (no_more !))
           (λ t told.
-          puts ! 28 refl refl (typed-told {𝓛 = 𝓛} t told.0) $
+          puts ! 28 refl refl (typed_told {𝓛 = 𝓛} t told.0) $
           returns ! (look ! 28 refl) $ freed ! 28 refl refl $ freed ! 26 refl refl $ freed ! 24 refl refl $ freed ! 22 refl refl $
           freed ! 20 refl refl $ freed ! 4 refl refl $ freed ! 16 refl refl $ freed ! 14 refl refl $ freed ! 12 refl refl $
           freed ! 10 refl refl $ freed ! 8 refl refl $ freed ! 6 refl refl $ freed ! 4 refl refl $ free0 ! $

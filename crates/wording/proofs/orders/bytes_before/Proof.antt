@@ -5,7 +5,7 @@ use native.Mathlib.Omega.{arith}
 use borrow.Author.Tests.{eq-eqb, ne_eqb}
 use lib.Dec.{eqb}
 use lib.ListN.{length}
-use Rattle.text.proofs.Spans.{Passed, none_passed, one-more-passed, passed-to-failing, passed-to-end}
+use Rattle.text.proofs.Spans.{Passed, none_passed, one_more_passed, passed_to_failing, passed_to_end}
 use Rattle.wording.proofs.orders.bytes_before.Statement.{statement}
 use Rattle.wording.proofs.orders.bytes_before.Tie as tie
 
@@ -27,7 +27,7 @@ shared-slice-read-if1 c = omega arith
 returns : tie.Need-returns invariant-loop decreases-loop
 returns c =
     let turn = c.before.before.before in
-    passed-to-failing _ _ _ c.before.before.loop-test.true (rw (eq-eqb _ _ c.if1.true)) turn.loop.invariant.1
+    passed_to_failing _ _ _ c.before.before.loop-test.true (rw (eq-eqb _ _ c.if1.true)) turn.loop.invariant.1
 
 add-i : tie.Need-overflow-add-i invariant-loop decreases-loop
 add-i c = omega arith
@@ -39,11 +39,11 @@ loop-again : tie.Need-loop-preserved invariant-loop decreases-loop
 loop-again c =
     let turn = c.before.before.before in (
       omega arith,
-      one-more-passed _ _ _ c.before.before.loop-test.true (rw (ne_eqb _ _ c.if1.false)) turn.loop.invariant.1,
+      one_more_passed _ _ _ c.before.before.loop-test.true (rw (ne_eqb _ _ c.if1.false)) turn.loop.invariant.1,
     )
 
 returns-2 : tie.Need-returns-2 invariant-loop decreases-loop
-returns-2 c = passed-to-end _ _ _ c.loop-test.false c.before.loop.invariant.1
+returns-2 c = passed_to_end _ _ _ c.loop-test.false c.before.loop.invariant.1
 
 pub bytes-before-spec : {M : Type 1} → statement M
 bytes-before-spec =

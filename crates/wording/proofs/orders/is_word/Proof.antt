@@ -5,7 +5,7 @@ use Prim.Native.Nat.{◌≤◌, ◌-◌}
 use native.Mathlib.Omega.{arith}
 use lib.ListN.{length, drop}
 use Rattle.meaning.specs.Names.{same}
-use Rattle.text.proofs.Sames.{lengths_differ_is_false, equal-bytes, other-bytes, nothing_left}
+use Rattle.text.proofs.Sames.{lengths_differ_is_false, equal_bytes, other_bytes, nothing_left}
 use Rattle.wording.proofs.orders.is_word.Statement.{statement}
 use Rattle.wording.proofs.orders.is_word.Tie as tie
 
@@ -30,7 +30,7 @@ shared-slice-read-if2-2 c = omega arith
 returns-2 : tie.Need-returns-2 invariant-loop decreases-loop
 returns-2 c =
     let turn = c.before.before.before in
-    sym (turn.before.loop.invariant.1 ∙ other-bytes _ _ _ turn.loop-test.true (omega arith) c.if2.true)
+    sym (turn.before.loop.invariant.1 ∙ other_bytes _ _ _ turn.loop-test.true (omega arith) c.if2.true)
 
 add-i : tie.Need-overflow-add-i invariant-loop decreases-loop
 add-i c = omega arith
@@ -41,7 +41,7 @@ loop-less c = omega arith
 loop-again : tie.Need-loop-preserved invariant-loop decreases-loop
 loop-again c =
     let turn = c.before.before.before in
-    (omega arith, turn.before.loop.invariant.1 ∙ equal-bytes _ _ _ turn.loop-test.true (omega arith) c.if2.false)
+    (omega arith, turn.before.loop.invariant.1 ∙ equal_bytes _ _ _ turn.loop-test.true (omega arith) c.if2.false)
 
 returns-3 : tie.Need-returns-3 invariant-loop decreases-loop
 returns-3 c = sym (c.before.loop.invariant.1 ∙ nothing_left _ _ _ c.loop-test.false (omega arith))

@@ -7,8 +7,8 @@ use borrow.Author.Rules.{rules}
 use borrow.Author.Tests.{not-true, not-false}
 use lib.ListN.{length, drop, get_or, drop_of_length-le}
 use Rattle.wording.specs.Orders.{all_digits, value_from, value_of}
-use Rattle.wording.proofs.Numbers.{Small, no_digits, small_next, digit_range, digit-here, no-digit-here, value-here}
-use Rattle.wording.proofs.Numbers.{not_one_to_three, not-all-digits, is-the-number, all_of_none, value_of_none}
+use Rattle.wording.proofs.Numbers.{Small, no_digits, small_next, digit_range, digit_here, no_digit_here, value_here}
+use Rattle.wording.proofs.Numbers.{not_one_to_three, not_all_digits, is_the_number, all_of_none, value_of_none}
 use Rattle.wording.proofs.orders.number_in.Statement.{statement}
 use Rattle.wording.proofs.orders.number_in.Tie as tie
 
@@ -44,8 +44,8 @@ returns-3 c =
     let turn = c.before.before.before.before in
     let no = sym c.before.is_digit.ensures ∙ not-true _ c.if3.true in
     sym
-    (not-all-digits _ turn.loop.invariant.1 turn.loop.invariant.2
-    (turn.loop.invariant.3 ∙ no-digit-here _ _ c.before.before.before.loop-test.true no))
+    (not_all_digits _ turn.loop.invariant.1 turn.loop.invariant.2
+    (turn.loop.invariant.3 ∙ no_digit_here _ _ c.before.before.before.loop-test.true no))
 
 mul-value : tie.Need-overflow-mul-value invariant-loop decreases-loop
 mul-value c = let small = c.before.before.before.before.loop.invariant.5.three in omega (arith, small)
@@ -90,8 +90,8 @@ loop-again c =
       omega arith,
       inv.1,
       inv.2,
-      inv.3 ∙ digit-here _ _ inside yes,
-      inv.4 ∙ value-here _ _ inside _,
+      inv.3 ∙ digit_here _ _ inside yes,
+      inv.4 ∙ value_here _ _ inside _,
       small_next _ _ _ (omega (arith, few, inside)) range.0 range.1 inv.5,
     )
 
@@ -100,7 +100,7 @@ returns-4 c =
     let inv = c.before.loop.invariant in
     let none_left = drop_of_length-le c.before.before.before.before.before.args.s.now c.loop-test.false in
     sym
-    (is-the-number _ inv.1 inv.2 _
+    (is_the_number _ inv.1 inv.2 _
     (inv.3 ∙ rw (none_left) all_of_none)
     (inv.4 ∙ rw (none_left) value_of_none))
 

@@ -1,6 +1,6 @@
 -- `orders::read_ask` meets its contract: each way through it is a law of the fields (AskWays.antt).
 use native.Mathlib.Omega.{arith}
-use Rattle.wording.proofs.AskWays.{end-within, no_name, empty_name, space-in-name, whole-ask}
+use Rattle.wording.proofs.AskWays.{end_within, no_name, empty_name, space_in_name, whole_ask}
 use borrow.Author.Rules.{rules}
 use Rattle.wording.proofs.orders.read_ask.Statement.{statement}
 use Rattle.wording.proofs.orders.read_ask.Tie as tie
@@ -21,7 +21,7 @@ add-end : tie.Need-overflow-add-end
 add-end c =
     let start = c.before.before.before in
     let within =
-    end-within start.args.line.now start.args.from c.bytes-before.result start.requires c.bytes-before.ensures
+    end_within start.args.line.now start.args.from c.bytes-before.result start.requires c.bytes-before.ensures
     in
     omega (arith, within)
 
@@ -53,7 +53,7 @@ sub-if3 c = search rules
 
 returns-3 : tie.Need-returns-3
 returns-3 c =
-    space-in-name _ _ _ c.before.before.before.before.before.before.before.before.requires
+    space_in_name _ _ _ c.before.before.before.before.before.before.before.before.requires
     c.before.before.before.before.before.bytes-before.ensures c.before.before.before.before.if1.false
     _ c.before.bytes-before2.ensures c.if3.true
 
@@ -74,7 +74,7 @@ read-three-requires c κs = search rules
 
 returns-4 : tie.Need-returns-4
 returns-4 c =
-    whole-ask _ _ _ c.before.before.before.before.before.before.before.before.before.before.before.requires
+    whole_ask _ _ _ c.before.before.before.before.before.before.before.before.before.before.before.requires
     c.before.before.before.before.before.before.before.before.bytes-before.ensures
     c.before.before.before.before.before.before.before.if1.false
     _ c.before.before.before.before.bytes-before2.ensures c.before.before.before.before.before.before.if2.false

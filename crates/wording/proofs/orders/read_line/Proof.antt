@@ -2,7 +2,7 @@
 use mathlib.Core.Path.{sym, ◌∙◌}
 use native.Mathlib.Omega.{arith}
 use lib.Seq.{length-take-le}
-use Rattle.wording.proofs.LineWays.{one-field-only, word-is-ask, word-is-not-ask}
+use Rattle.wording.proofs.LineWays.{one_field_only, word_is_ask, word_is_not_ask}
 use borrow.Author.Rules.{rules}
 use Rattle.wording.proofs.orders.read_line.Statement.{statement}
 use Rattle.wording.proofs.orders.read_line.Tie as tie
@@ -11,7 +11,7 @@ bytes-before-requires : tie.Need-bytes-before-requires
 bytes-before-requires c κs = search rules
 
 returns : tie.Need-returns
-returns c = one-field-only _ _ c.before.bytes-before.ensures c.if1.true
+returns c = one_field_only _ _ c.before.bytes-before.ensures c.if1.true
 
 add-from : tie.Need-overflow-add-from
 add-from c = search rules
@@ -30,7 +30,7 @@ read-ask-requires c κs = search rules
 
 returns-2 : tie.Need-returns-2
 returns-2 c =
-    word-is-ask _ _ c.before.before.before.before.before.before.bytes-before.ensures
+    word_is_ask _ _ c.before.before.before.before.before.before.bytes-before.ensures
     c.before.before.before.before.before.if1.false (sym c.before.before.is_IsWord.ensures ∙ c.before.if2.true) _
     c.read-ask.ensures
 
@@ -54,7 +54,7 @@ read-two-requires c κs = search rules
 
 returns-3 : tie.Need-returns-3
 returns-3 c =
-    word-is-not-ask _ _ c.before.before.before.before.before.before.before.before.before.bytes-before.ensures
+    word_is_not_ask _ _ c.before.before.before.before.before.before.before.before.before.bytes-before.ensures
     c.before.before.before.before.before.before.before.before.if1.false
     (sym c.before.before.before.before.before.is_IsWord.ensures ∙ c.before.before.before.before.if2.false) _
     (rw (← c.before.number_in.ensures) c.read-two.ensures)

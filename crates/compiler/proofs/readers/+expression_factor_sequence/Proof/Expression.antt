@@ -10,7 +10,7 @@ use Rattle.table.specs.declared.cells.Table.{Table}
 use Rattle.grammar.specs.Machine.{onward, upward}
 use Rattle.compiler.specs.Reading.{ExpressionRead, ends_sequence}
 use Rattle.compiler.specs.declared.readers.Reading.{Reading}
-use Rattle.compiler.proofs.Onwards.{GoesOn, sequence-follows}
+use Rattle.compiler.proofs.Onwards.{GoesOn, sequence_follows}
 use Rattle.compiler.proofs.Expressions as expressions
 use Rattle.compiler.proofs.readers.expression.Reads as expression
 use Rattle.compiler.proofs.readers.+expression_factor_sequence.Lts-expression as expression-lts
@@ -36,7 +36,7 @@ pub expression-on : (t : ℕ) (c : expression-lts.After-onward (expression-calls
     expression-Inv-loop expression-μ-loop) → GoesOn upward
     c.before.before.before.before.before.before.before.before.args.s.now c.before.before.before.loop.e
     c.onward.given.0.0
-expression-on t c = sequence-follows c.before.before.before.before.before.before.before.before.args.s.now
+expression-on t c = sequence_follows c.before.before.before.before.before.before.before.before.args.s.now
     c.before.before.before.loop.e (expression-given t c.before.before.before).within c.onward.given.0.0
     (sym c.before.before.next-sequence.ensures ∙ c.onward.given.1)
 
@@ -91,7 +91,7 @@ expression-sequence-requires-2 t c κs = (
 pub expression-returns-2 : (t : ℕ) → expression-lts.Need-returns-2 (expression-calls t) (expression-at t) expression.Post
     expression-Inv-loop expression-μ-loop
 expression-returns-2 t c =
-    expressions.sequence-is-refused
+    expressions.sequence_is_refused
     c.before.before.before.before.before.before.before.before.before.before.before.before.before.before.args.s.now
     c.before.before.before.before.before.before.before.before.before.before.before.before.before.before.args.depth
     c.before.before.before.before.before.before.before.before.before.before.before.before.before.before.args.t
@@ -111,7 +111,7 @@ pub expression-loop-less : (t : ℕ) → expression-lts.Need-loop-smaller (expre
 expression-loop-less t c =
     omega (
       arith,
-      expressions.sequence-shorter
+      expressions.sequence_shorter
           c.before.before.before.before.before.before.before.before.before.before.before.before.before.before.before.args.s.now
           c.before.before.before.before.before.before.before.before.before.before.before.before.before.before.before.args.depth
           c.before.before.before.before.before.before.before.before.before.before.before.before.before.before.before.args.t
@@ -128,7 +128,7 @@ expression-loop-less t c =
 pub expression-loop-again : (t : ℕ) → expression-lts.Need-loop-preserved (expression-calls t) (expression-at t) expression.Post
     expression-Inv-loop expression-μ-loop
 expression-loop-again t c = (
-  λ t h. expressions.expression-grows
+  λ t h. expressions.expression_grows
       c.before.before.before.before.before.before.before.before.before.before.before.before.before.before.before.args.s.now
       c.before.before.before.before.before.before.before.before.before.before.before.before.before.before.before.args.depth
       t c.before.before.before.before.before.before.before.before.before.before.loop.e
@@ -148,7 +148,7 @@ expression-enum-told t c = search rules
 pub expression-returns-3 : (t : ℕ) → expression-lts.Need-returns-3 (expression-calls t) (expression-at t) expression.Post
     expression-Inv-loop expression-μ-loop
 expression-returns-3 t c =
-    expressions.expression-ends c.before.before.before.before.before.before.before.before.args.s.now
+    expressions.expression_ends c.before.before.before.before.before.before.before.before.args.s.now
     c.before.before.before.before.before.before.before.before.args.depth
     c.before.before.before.before.before.before.before.before.args.t c.before.before.before.loop.e
     (expression-given t c.before.before.before) c.before.before.before.loop.invariant.1

@@ -51,7 +51,7 @@ factor-halt-requires t c κs = search rules
 
 pub factor-returns : (t : ℕ) → factor-lts.Need-returns (factor-calls t) (factor-at t) factor.Post
 factor-returns t c =
-    factors.reads-limit _ _ c.before.before.before.before.before.before.before.before.next.ensures _ _ _ _
+    factors.reads_limit _ _ c.before.before.before.before.before.before.before.before.next.ensures _ _ _ _
     c.before.before.before.before.before.before.token.given.1 _ c.before.before.before.place.ensures
     c.before.if1.true c.halt.ensures
 
@@ -77,7 +77,7 @@ factor-halt-requires-2 t c κs = search rules
 
 pub factor-returns-2 : (t : ℕ) → factor-lts.Need-returns-2 (factor-calls t) (factor-at t) factor.Post
 factor-returns-2 t c =
-    factors.reads-deep _ _ c.before.before.before.before.next.ensures _ _ _ c.before.before.enum_told.given.1
+    factors.reads_deep _ _ c.before.before.before.before.next.ensures _ _ _ c.before.before.enum_told.given.1
     c.before.if2.true c.halt2.ensures
 
 pub factor-sub-expression : (t : ℕ) → factor-lts.Need-overflow-sub-expression (factor-calls t) (factor-at t) factor.Post
@@ -137,13 +137,13 @@ factor-halt-requires-3 t c κs = search rules
 
 pub factor-returns-3 : (t : ℕ) → factor-lts.Need-returns-3 (factor-calls t) (factor-at t) factor.Post
 factor-returns-3 t c =
-    factors.reads-name _ _ c.before.before.before.before.before.before.before.before.before.before.next.ensures _
+    factors.reads_name _ _ c.before.before.before.before.before.before.before.before.before.before.next.ensures _
     _ _ _ c.before.before.before.before.before.before.before.before.token.given.1 _
     c.before.before.before.before.before.place.ensures c.before.before.before.if1.false c.starry.ensures
 
 pub factor-returns-4 : (t : ℕ) → factor-lts.Need-returns-4 (factor-calls t) (factor-at t) factor.Post
 factor-returns-4 t c =
-    factors.reads-open _ _ c.before.before.before.before.before.before.before.next.ensures _ _ _
+    factors.reads_open _ _ c.before.before.before.before.before.before.before.next.ensures _ _ _
     c.before.before.before.before.before.enum_told.given.1 c.before.before.before.before.if2.false _
     c.before.before.expression.ensures _ c.before.close.ensures c.starry2.ensures
 

@@ -10,7 +10,7 @@ use Rattle.table.specs.declared.cells.Table.{Table}
 use Rattle.grammar.specs.Machine.{onward}
 use Rattle.compiler.specs.Reading.{SequenceRead, ends_factor}
 use Rattle.compiler.specs.declared.readers.Reading.{Reading}
-use Rattle.compiler.proofs.Onwards.{GoesOn, factor-follows}
+use Rattle.compiler.proofs.Onwards.{GoesOn, factor_follows}
 use Rattle.compiler.proofs.Sequences as sequences
 use Rattle.compiler.proofs.readers.sequence.Reads as sequence
 use Rattle.compiler.proofs.readers.+expression_factor_sequence.Lts-sequence as sequence-lts
@@ -34,7 +34,7 @@ sequence-given t c = c.loop.invariant.0 c.before.before.before.before.before.arg
 pub sequence-on : (t : ℕ) (c : sequence-lts.After-onward (sequence-calls t) (sequence-at t) sequence.Post sequence-Inv-loop
     sequence-μ-loop) → GoesOn onward c.before.before.before.before.before.before.before.before.args.s.now
     c.before.before.before.loop.q c.onward.given.0.0
-sequence-on t c = factor-follows c.before.before.before.before.before.before.before.before.args.s.now
+sequence-on t c = factor_follows c.before.before.before.before.before.before.before.before.args.s.now
     c.before.before.before.loop.q (sequence-given t c.before.before.before).within c.onward.given.0.0 (sym
     c.before.before.next-factor.ensures ∙ c.onward.given.1)
 
@@ -88,7 +88,7 @@ sequence-factor-requires-2 t c κs = (
 pub sequence-returns-2 : (t : ℕ) → sequence-lts.Need-returns-2 (sequence-calls t) (sequence-at t) sequence.Post sequence-Inv-loop
     sequence-μ-loop
 sequence-returns-2 t c =
-    sequences.factor-refused
+    sequences.factor_refused
     c.before.before.before.before.before.before.before.before.before.before.before.before.before.before.args.s.now
     c.before.before.before.before.before.before.before.before.before.before.before.before.before.before.args.depth
     c.before.before.before.before.before.before.before.before.before.before.before.before.before.before.args.t
@@ -108,7 +108,7 @@ pub sequence-loop-less : (t : ℕ) → sequence-lts.Need-loop-smaller (sequence-
 sequence-loop-less t c =
     omega (
       arith,
-      sequences.factor-shorter
+      sequences.factor_shorter
           c.before.before.before.before.before.before.before.before.before.before.before.before.before.before.before.args.s.now
           c.before.before.before.before.before.before.before.before.before.before.before.before.before.before.before.args.depth
           c.before.before.before.before.before.before.before.before.before.before.before.before.before.before.before.args.t
@@ -125,7 +125,7 @@ sequence-loop-less t c =
 pub sequence-loop-again : (t : ℕ) → sequence-lts.Need-loop-preserved (sequence-calls t) (sequence-at t) sequence.Post sequence-Inv-loop
     sequence-μ-loop
 sequence-loop-again t c = (
-  λ t h. sequences.sequence-grows
+  λ t h. sequences.sequence_grows
       c.before.before.before.before.before.before.before.before.before.before.before.before.before.before.before.args.s.now
       c.before.before.before.before.before.before.before.before.before.before.before.before.before.before.before.args.depth
       t c.before.before.before.before.before.before.before.before.before.before.loop.q
@@ -145,7 +145,7 @@ sequence-enum-told t c = search rules
 pub sequence-returns-3 : (t : ℕ) → sequence-lts.Need-returns-3 (sequence-calls t) (sequence-at t) sequence.Post sequence-Inv-loop
     sequence-μ-loop
 sequence-returns-3 t c =
-    sequences.sequence-ends c.before.before.before.before.before.before.before.before.args.s.now
+    sequences.sequence_ends c.before.before.before.before.before.before.before.before.args.s.now
     c.before.before.before.before.before.before.before.before.args.depth
     c.before.before.before.before.before.before.before.before.args.t c.before.before.before.loop.q
     (sequence-given t c.before.before.before) c.before.before.before.loop.invariant.1
