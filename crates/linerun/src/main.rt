@@ -1,5 +1,7 @@
 // Reads an input, at most one byte more than is allowed, and writes its transcript. All that is read in it and printed of it is
 // `transcripts::transcript::transcript`'s, whose contract says the exact output; here are only the calls that read and write.
+#![tactic(auto)]
+
 ghost use Rattle.std.specs.Prelude.{◌≡◌, length};
 
 use libc::{STDIN_FILENO, STDOUT_FILENO};

@@ -19,9 +19,12 @@ at_member [] i l = absurd (not-suc-le-zero l)
 at_member (n ∷ ns) zero l = Memᴰ.head refl
 at_member (n ∷ ns) (suc i) l = Memᴰ.tail (at_member ns i (le_of_suc-le-suc l))
 
+member_placed : (n : Name) (ns : List Name) → Memᴰ n ns → (i : ℕ) × (i < length ns) × (get_or ns i [] ≡ n)
+member_placed n ns (Memᴰ.head e) = (0, omega arith, sym e)
+member_placed n ns (Memᴰ.tail {xs = rest} m) = let (i, l, e) = member_placed n rest m in (suc i, omega arith, e)
+
 pub member_at : (ns : List Name) (n : Name) → Memᴰ n ns → (i : ℕ) × (i < length ns) × (get_or ns i [] ≡ n)
-member_at ns n (Memᴰ.head e) = (0, omega arith, sym e)
-member_at ns n (Memᴰ.tail {xs = rest} m) = let (i, l, e) = member_at rest n m in (suc i, omega arith, e)
+member_at ns n m = member_placed n ns m
 
 -- the key of each name of a list is held
 pub at_held : (ns : List Name) (k : Name) (i : ℕ) → i < length ns → key (get_or ns i []) ≡ k → holds ns k ≡ true

@@ -1,5 +1,7 @@
 // Compiles each text of its input and shows what it reads as: document 01's sample readings and limits, which `stdin` holds and
 // `stdout` answers. A text ends at a `~`, which no path has; the byte behind that is passed over.
+#![tactic(auto)]
+
 use compiler::readers::compile;
 use compiler::replies::Reply;
 use libc::STDOUT_FILENO;

@@ -1,6 +1,8 @@
 // Takes a script of calls and shows what each gives: paths, asks, finishes and withdrawals, and cells that are damaged in between. `stdin`
 // is such a script, `stdout` what it must give. A line is a letter, then numbers and a name, one space between them; `t N` as the first
 // line has the script run N times, from nothing each time, of which the last shows.
+#![tactic(auto)]
+
 ghost use Rattle.std.specs.Prelude.{◌≤◌, length};
 
 use compiler::readers::compile;

@@ -1,0 +1,39 @@
+-- `text::tokens::word_token` meets its contract: at each `return` the tests that led there pick the case of `word_token`.
+-- What `same_name` ensures says the two first tests; how names are compared is not looked into.
+use mathlib.Core.Path.{sym, ◌∙◌}
+use borrow.Author.Tests.{lt-ltb, le-ltb}
+use Rattle.text.specs.Tokens.{word_token}
+use Rattle.text.proofs.tokens.word_token.Goals as goal
+
+-- LEFT slice-aggregate-same-name : tie.Need-slice-aggregate-same-name
+-- slice-aggregate-same-name c = search rules
+
+-- LEFT slice-aggregate-same-name-2 : tie.Need-slice-aggregate-same-name-2
+-- slice-aggregate-same-name-2 c = search rules
+
+pub returns-then-same_name : goal.returns-then-same_name
+unfolding word_token
+returns-then-same_name c = simp (sym c.same_name.ensures ∙ c.if-same_name.true)
+
+pub returns-then-same_name-2 : goal.returns-then-same_name-2
+unfolding word_token
+returns-then-same_name-2 c =
+    simp (sym c.same_name.ensures ∙ c.if-same_name.false, sym c.same_name-2.ensures ∙ c.if-same_name-2.true)
+
+pub returns-then-n-gt16 : goal.returns-then-n-gt16
+unfolding word_token
+returns-then-n-gt16 c =
+    simp (
+      sym c.same_name.ensures ∙ c.if-same_name.false,
+      sym c.same_name-2.ensures ∙ c.if-same_name-2.false,
+      lt-ltb _ _ c.if-n-gt16.true,
+    )
+
+pub returns : goal.returns
+unfolding word_token
+returns c =
+    simp (
+      sym c.same_name.ensures ∙ c.if-same_name.false,
+      sym c.same_name-2.ensures ∙ c.if-same_name-2.false,
+      le-ltb _ _ c.if-n-gt16.false,
+    )
