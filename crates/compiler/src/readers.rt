@@ -11,7 +11,7 @@ use table::cells::{Table, table_of_zeros};
 use text::tokens::{Token, next};
 
 // A part, with `left` bytes unread behind it; or, where the number is not 0, a refusal with `left` bytes from its place on.
-#[derive(Drop)]
+#[derive(Clone, Copy)]
 struct Reading {
     number: u8,
     left: usize,
@@ -19,14 +19,14 @@ struct Reading {
 }
 
 // Whether a sequence or a sum goes on, and at which byte.
-#[derive(Drop)]
+#[derive(Clone, Copy)]
 enum Onward {
     At(usize),
     Ends,
 }
 
 // Whether any `*` was read, and how many bytes were used up by them.
-#[derive(Drop)]
+#[derive(Clone, Copy)]
 struct Starring {
     any: bool,
     used: usize,

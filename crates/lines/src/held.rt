@@ -8,32 +8,32 @@ use standing::records::Session;
 use steps::replies::{AskReply, FinishReply, OpenReply, WithdrawReply};
 use table::cells::Table;
 
-#[derive(Drop)]
+#[derive(Clone, Copy)]
 pub struct Line {
     pub session: Session,
     pub list: [Entry; 64],
 }
 
 // A reply, and the line after the call.
-#[derive(Drop)]
+#[derive(Clone, Copy)]
 pub struct LineOpened {
     pub reply: OpenReply,
     pub line: Line,
 }
 
-#[derive(Drop)]
+#[derive(Clone, Copy)]
 pub struct LineAsked {
     pub reply: AskReply,
     pub line: Line,
 }
 
-#[derive(Drop)]
+#[derive(Clone, Copy)]
 pub struct LineFinished {
     pub reply: FinishReply,
     pub line: Line,
 }
 
-#[derive(Drop)]
+#[derive(Clone, Copy)]
 pub struct LineWithdrawn {
     pub reply: WithdrawReply,
     pub line: Line,

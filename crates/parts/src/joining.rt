@@ -7,7 +7,7 @@ use table::marks::mark_of;
 use table::sets::link;
 
 // A part: whether it can be empty, its first and last sets, and the table of all that was read so far.
-#[derive(Drop)]
+#[derive(Clone, Copy)]
 pub struct Part {
     pub empty: bool,
     pub first: u64,

@@ -9,7 +9,7 @@ use table::numbers::{Operation, Position};
 use table::sets::set_of;
 
 // A part, or the number of the limit that it passes; 0 is no number of refusal.
-#[derive(Drop)]
+#[derive(Clone, Copy)]
 pub struct Placed {
     pub number: u8,
     pub part: Part,

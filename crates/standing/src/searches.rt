@@ -11,20 +11,20 @@ use table::numbers::Operation;
 use table::sets::union_of;
 
 // An entry, and the place where it stands, from 0.
-#[derive(Drop)]
+#[derive(Clone, Copy)]
 pub struct Waiter {
     pub place: usize,
     pub entry: Entry,
 }
 
-#[derive(Drop)]
+#[derive(Clone, Copy)]
 pub enum Found {
     Nobody,
     At(Waiter),
 }
 
 // What is looked for, and what is found so far.
-#[derive(Drop)]
+#[derive(Clone, Copy)]
 pub struct Search {
     // whose entry is looked for
     pub terminal: Terminal,

@@ -4,7 +4,7 @@ use standing::entries::Entry;
 use standing::records::Session;
 
 // The first `blanks` entries become blank.
-#[derive(Drop)]
+#[derive(Clone, Copy)]
 pub struct Opened {
     pub reply: OpenReply,
     pub session: Session,
@@ -12,7 +12,7 @@ pub struct Opened {
 }
 
 // The entry is put at the place, if the list has it.
-#[derive(Drop)]
+#[derive(Clone, Copy)]
 pub struct Asked {
     pub reply: AskReply,
     pub session: Session,
@@ -21,7 +21,7 @@ pub struct Asked {
 }
 
 // Of the first `used` entries, the one at the place is taken out, if it is one of them.
-#[derive(Drop)]
+#[derive(Clone, Copy)]
 pub struct Handed {
     pub reply: FinishReply,
     pub session: Session,
@@ -30,7 +30,7 @@ pub struct Handed {
 }
 
 // Of the first `used` entries, the one at the place is taken out, if it is one of them.
-#[derive(Drop)]
+#[derive(Clone, Copy)]
 pub struct Withdrawn {
     pub reply: WithdrawReply,
     pub session: Session,

@@ -2,14 +2,14 @@
 use standing::numbers::Terminal;
 use table::numbers::Operation;
 
-#[derive(Drop)]
+#[derive(Clone, Copy)]
 pub enum OpenReply {
     Opened,
     Refused(u8),
 }
 
 // Delayed, with the number of entries ahead.
-#[derive(Drop)]
+#[derive(Clone, Copy)]
 pub enum AskReply {
     Granted,
     Delayed(usize),
@@ -17,34 +17,34 @@ pub enum AskReply {
 }
 
 // Who runs now, and what.
-#[derive(Drop)]
+#[derive(Clone, Copy)]
 pub struct Grant {
     pub terminal: Terminal,
     pub operation: Operation,
 }
 
 // Whom a finish hands the line to.
-#[derive(Drop)]
+#[derive(Clone, Copy)]
 pub enum Next {
     Granted(Grant),
     Nobody,
 }
 
 // The number of entries examined, beside it who is granted what, if any.
-#[derive(Drop)]
+#[derive(Clone, Copy)]
 pub struct Finished {
     pub examined: usize,
     pub next: Next,
 }
 
-#[derive(Drop)]
+#[derive(Clone, Copy)]
 pub enum FinishReply {
     Finished(Finished),
     Refused(u8),
 }
 
 // Withdrawn, with the place that the entry had.
-#[derive(Drop)]
+#[derive(Clone, Copy)]
 pub enum WithdrawReply {
     Withdrawn(usize),
     Refused(u8),

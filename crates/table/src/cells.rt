@@ -7,7 +7,7 @@ use crate::numbers::Operation;
 // The counts, the start set, each position's operation and row, each name's length and bytes (name i from byte 16 i on), and
 // the mark; zeros in every unused cell.
 #[repr(C)]
-#[derive(Drop)]
+#[derive(Clone, Copy)]
 pub struct Table {
     pub positions: usize,
     pub names: usize,

@@ -9,7 +9,7 @@ use crate::numbers::Operation;
 use text::tokens::same_name;
 
 // Whether a name is among the names of a table, and of which operation.
-#[derive(Drop)]
+#[derive(Clone, Copy)]
 pub enum Found {
     At(Operation),
     Nowhere,

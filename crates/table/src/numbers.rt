@@ -2,9 +2,9 @@
 
 // An operation: a distinct name, numbered 0, 1, .. in order of first appearance.
 #[repr(C)]
-#[derive(Drop)]
+#[derive(Clone, Copy)]
 pub struct Operation(pub u8);
 
 // A position: a name in the text, numbered 1, 2, .. from the left.
-#[derive(Drop)]
+#[derive(Clone, Copy)]
 pub struct Position(pub u8);

@@ -8,7 +8,7 @@ use crate::classes::{
 };
 
 // What stands next in a text.
-#[derive(Drop)]
+#[derive(Clone, Copy)]
 pub enum Token {
     Semicolon,
     Plus,
@@ -29,7 +29,7 @@ pub enum Token {
 }
 
 // A token, the place of its first byte, and how many bytes are used up with it and the blanks before it.
-#[derive(Drop)]
+#[derive(Clone, Copy)]
 pub struct Read {
     pub token: Token,
     pub start: usize,

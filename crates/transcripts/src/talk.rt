@@ -11,7 +11,7 @@ use standing::numbers::{Terminal, least};
 use wording::orders::{LF, Order, bytes_before, read_line};
 
 // The line after a turn, and where the output goes on.
-#[derive(Drop)]
+#[derive(Clone, Copy)]
 pub(crate) struct Turn {
     pub line: Line,
     pub at: usize,

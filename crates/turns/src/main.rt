@@ -19,7 +19,7 @@ use table::numbers::Operation;
 const NEWLINE: u8 = 10;
 
 // A number of a script's line, and where it ends.
-#[derive(Drop)]
+#[derive(Clone, Copy)]
 struct Field {
     value: u64,
     end: usize,

@@ -8,7 +8,7 @@ use table::cells::Table;
 
 // `running` is 0 while the line is free; the cell `terminal` then says nothing.
 #[repr(C)]
-#[derive(Drop)]
+#[derive(Clone, Copy)]
 pub struct Record {
     pub table: Table,
     pub set: u64,

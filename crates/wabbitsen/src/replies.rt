@@ -13,7 +13,7 @@ use table::numbers::Operation;
 // delayed ask, the entries that a finish examined or the place that a withdrawn entry had. `granted` is 1 if somebody is granted: by
 // an ask who asked, by a finish `terminal` and `operation`. Every cell that says nothing is 0.
 #[repr(C)]
-#[derive(Drop)]
+#[derive(Clone, Copy)]
 pub struct Reply {
     pub value: usize,
     pub terminal: Terminal,

@@ -13,13 +13,13 @@ pub const SPACE: u8 = 32;
 pub const LF: u8 = 10;
 
 // An ask: who asks, and where in the line the name starts.
-#[derive(Drop)]
+#[derive(Clone, Copy)]
 pub struct Asking {
     pub terminal: Terminal,
     pub from: usize,
 }
 
-#[derive(Drop)]
+#[derive(Clone, Copy)]
 pub enum Order {
     Ask(Asking),
     Finish(Terminal),
@@ -28,7 +28,7 @@ pub enum Order {
 }
 
 // A number of 1 to 3 digits.
-#[derive(Drop)]
+#[derive(Clone, Copy)]
 enum Number {
     Of(Terminal),
     None,
