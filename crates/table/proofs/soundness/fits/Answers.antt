@@ -7,12 +7,10 @@ use native.Mathlib.Nat.{div-lt_iff_lt-mul}
 use native.Mathlib.Omega.{arith}
 use lib.Dec.{eqb, ltb}
 use lib.Pow.{pow_pos, pow_mono}
-use borrow.Author.Rules.{rules}
 use borrow.Author.Tests.{lt-ltb, le-ltb, eq-eqb, ne_eqb}
 use Rattle.meaning.proofs.SetLaws.{below_or_not}
 use Rattle.table.specs.Tests.{fit_test}
-use Rattle.table.proofs.soundness.fits.Statement.{statement}
-use Rattle.table.proofs.soundness.fits.Tie as tie
+use Rattle.table.proofs.soundness.fits.Goals as goal
 
 shifted-empty : (s n : ℕ) → eqb (s / 2 ^ n) 0 ≡ ltb s (2 ^ n)
 shifted-empty s n =
@@ -22,25 +20,19 @@ shifted-empty s n =
     (λ h. ne_eqb (s / 2 ^ n) 0 (λ e. omega (arith, none.0 (omega arith))) ∙ sym (le-ltb s (2 ^ n) h))
     (below_or_not s (2 ^ n))
 
-returns : tie.Need-returns
+pub returns-then-s-eq0 : goal.returns-then-s-eq0
 unfolding fit_test
-returns c = simp (eq-eqb _ _ c.if1.true)
+returns-then-s-eq0 c = simp (eq-eqb _ _ c.if-s-eq0.true)
 
-returns-2 : tie.Need-returns-2
+pub returns-then-n-ge64 : goal.returns-then-n-ge64
 unfolding fit_test
-returns-2 c =
-    let a = c.before.before.args in
-    let wide : 2 ^ 64 ≤ 2 ^ a.n = pow_mono c.if2.true in
-    simp (ne_eqb _ _ c.before.if1.false, lt-ltb a.s (2 ^ a.n) (omega arith))
+returns-then-n-ge64 c =
+    let a = c.args in
+    let wide : 2 ^ 64 ≤ 2 ^ a.n = pow_mono c.if-n-ge64.true in
+    simp (ne_eqb _ _ c.if-s-eq0.false, lt-ltb a.s (2 ^ a.n) (omega arith))
 
-shr-result : tie.Need-overflow-shr-result
-shr-result c = search rules
-
-returns-3 : tie.Need-returns-3
+pub returns : goal.returns
 unfolding fit_test
-returns-3 c =
-    let a = c.before.before.args in
-    simp (ne_eqb _ _ c.before.if1.false) (shifted-empty a.s a.n)
-
-pub fits-spec : {M : Type 1} → statement M
-fits-spec = tie.close (tie.spec returns returns-2 shr-result returns-3)
+returns c =
+    let a = c.args in
+    simp (ne_eqb _ _ c.if-s-eq0.false) (shifted-empty a.s a.n)
