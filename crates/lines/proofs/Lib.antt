@@ -1,5 +1,2 @@
--- Lending locals for one call, and what the walks of the four functions share.
-pub mod LentLocals
-pub mod LineLoans
-pub mod LineWalk
+-- What the contracts say.
 pub mod Determined

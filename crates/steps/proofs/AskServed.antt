@@ -41,9 +41,9 @@ use Rattle.steps.proofs.Verdicts.Common.{stops, goes}
 not_asked_told : (s : Session) (l : List Entry) (m : ℕ) → ask_outcome l (not_asked s (length l) m) ≡ refusing s l m
 not_asked_told s l m = rw (set_out l (length l) blank_entry (le_refl (length l)))
 
-pub one_more : (n : ℕ) → n < 64 → one_more n ≡ suc n
+pub one_more_fits : (n : ℕ) → n < 64 → one_more n ≡ suc n
 unfolding one_more
-one_more n h = rw (lt-ltb n 64 h)
+one_more_fits n h = rw (lt-ltb n 64 h)
 
 -- the core step is the step, where there is room for one more
 module _ (s : Session) (l : List Entry) (e : Entry) (count : length (in_use s l) ≡ s.waiting) (room : s.waiting < 64) where
@@ -62,7 +62,7 @@ module _ (s : Session) (l : List Entry) (e : Entry) (count : length (in_use s l)
         list = set l (length (in_use s l)) e;
       })
   by_test true = rw (set_out l (length l) e (le_refl (length l)))
-  by_test false = rw (count, one_more s.waiting room)
+  by_test false = rw (count, one_more_fits s.waiting room)
 
   ask_core_told : ask_outcome l (ask_core s (length l) e) ≡ ask_step s l e
   unfolding ask_core ask_step

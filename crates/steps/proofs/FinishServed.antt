@@ -27,7 +27,7 @@ use Rattle.steps.specs.Calling.{Serves, Finishes, refusing}
 use Rattle.steps.specs.Calling.Serves.{refuses, does}
 use Rattle.steps.specs.Promises.{FinishCoreIsStep, LookingFindsPicked}
 use Rattle.steps.specs.Values.{finish_outcome, runs_in, not_finished, hand_core, finish_core, finish_value, FinishedBy}
-use Rattle.steps.proofs.AskServed.{one_more}
+use Rattle.steps.proofs.AskServed.{one_more_fits}
 use Rattle.standing.proofs.Looking.{looked_first}
 use Rattle.standing.proofs.Meeting.{operation_meets}
 use Rattle.steps.proofs.RowNumbers.{rows_left, finish_rows_left}
@@ -53,7 +53,7 @@ handed_on : (s : Session) (l : List Entry) (test : Entry → Bool) (f : Found) �
     → finish_outcome l (hand_core s f) ≡ hand_on s l f
 unfolding taken_out
 handed_on s l test Nobody finds few = refl
-handed_on s l test (At w) finds few = rw (one_more w.place (omega (arith, finds.there, few)))
+handed_on s l test (At w) finds few = rw (one_more_fits w.place (omega (arith, finds.there, few)))
 
 -- the core step is the step
 pub finish_core_is_step : FinishCoreIsStep

@@ -4,7 +4,7 @@ use mathlib.Core.List.{List}
 use mir.Val.{Val}
 use denote.Laws.{Is}
 use denote.Struct.Declared.{row}
-use lib.ListN.{length, length-map}
+use lib.ListN.{length}
 use Rattle.table.specs.declared.cells.Table.{Table}
 use Rattle.table.specs.contracts.cells.Table.{the_type}
 
@@ -18,8 +18,8 @@ pub told_whole : (t : Table) (vs : List Val) → Is (row the_type) t vs → Whol
 told_whole t vs is =
     let cells = is.1.1.1.1.1 in
     record {
-      operations = simp length-map at cells.0.1.0.1;
-      rows = simp length-map at cells.1.0.1.0.1;
-      lengths = simp length-map at cells.1.1.0.1.0.1;
-      bytes = simp length-map at cells.1.1.1.0.1.0.1;
+      operations = cells.0.1.0.1;
+      rows = cells.1.0.1.0.1;
+      lengths = cells.1.1.0.1.0.1;
+      bytes = cells.1.1.1.0.1.0.1;
     }

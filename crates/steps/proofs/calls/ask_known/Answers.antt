@@ -1,0 +1,20 @@
+-- `steps::calls::ask_known` meets its contract: the tests in order.
+use mathlib.Core.Path.{sym, ◌∙◌}
+use Rattle.steps.specs.Values.{ask_known}
+use Rattle.steps.proofs.calls.ask_known.Goals as goal
+
+pub returns-then-runs : goal.returns-then-runs
+unfolding ask_known
+returns-then-runs c = rw (sym c.runs.ensures ∙ c.if-runs.true) c.not_asked.ensures
+
+pub returns-then-is_found : goal.returns-then-is_found
+unfolding ask_known
+returns-then-is_found c =
+    rw (sym c.runs.ensures ∙ c.if-runs.false, sym c.is_found.ensures ∙ c.if-is_found.true)
+    c.not_asked-then-is_found.ensures
+
+pub returns : goal.returns
+unfolding ask_known
+returns c =
+    rw (sym c.runs.ensures ∙ c.if-runs.false, sym c.is_found.ensures ∙ c.if-is_found.false)
+    c.ask_step.ensures

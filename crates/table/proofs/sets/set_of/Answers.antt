@@ -1,0 +1,28 @@
+-- `table::sets::set_of` meets its contract: a number that is no position's fails a test of `single`; a position's bit is a power
+-- of two that fits.
+use mathlib.Core.Path.{◌≡◌}
+use mathlib.Core.Bool.{and-false}
+use Prim.Native.Nat.{ℕ, ◌-◌, ◌*◌, ◌%◌, ◌^◌, ◌<◌}
+use native.Mathlib.Nat.{one-mul, mod-eq_of_lt}
+use native.Mathlib.Omega.{arith}
+use lib.Pow.{pow-lt}
+use borrow.Author.Tests.{le-leb, lt-leb}
+use Rattle.table.specs.Linking.{single}
+use Rattle.table.proofs.sets.set_of.Goals as goal
+
+bit-fits : (n : ℕ) → n < 64 → 1 * 2 ^ n % 18446744073709551616 ≡ 2 ^ n
+bit-fits n h = rw one-mul (mod-eq_of_lt (pow-lt h))
+
+pub returns-then-n-eq0 : goal.returns-then-n-eq0
+unfolding single
+returns-then-n-eq0 c = simp (lt-leb 1 c.args.p.0 (omega arith))
+
+pub returns-then-n-gt64 : goal.returns-then-n-gt64
+unfolding single
+returns-then-n-gt64 c = simp (lt-leb _ 64 c.if-n-gt64.true, and-false)
+
+pub returns : goal.returns
+unfolding single
+returns c =
+    let n = c.args.p.0 in
+    simp (le-leb 1 n (omega arith), le-leb n 64 c.if-n-gt64.false, bit-fits (n - 1) (omega arith))
