@@ -1,13 +1,10 @@
 -- `orders::number_in` meets its contract. The invariant: the first i bytes are digits, with this value, and the rest decides.
-use mathlib.Core.Path.{◌≡◌, refl, sym, ◌∙◌}
+use mathlib.Core.Path.{sym, ◌∙◌}
 use mathlib.Core.Logic.{inl, inr}
-use Prim.Native.Nat.{◌≤◌, ◌-◌}
 use native.Mathlib.Omega.{arith}
-use borrow.Author.Rules.{rules}
 use borrow.Author.Tests.{not-true, not-false}
-use lib.ListN.{length, drop, get_or, drop_of_length-le}
-use Rattle.wording.specs.Orders.{all_digits, value_from, value_of}
-use Rattle.wording.proofs.Numbers.{Small, no_digits, small_next, digit_range, digit_here, no_digit_here, value_here}
+use lib.ListN.{drop_of_length-le}
+use Rattle.wording.proofs.Numbers.{small_next, digit_range, digit_here, no_digit_here, value_here}
 use Rattle.wording.proofs.Numbers.{not_one_to_three, not_all_digits, is_the_number, all_of_none, value_of_none}
 use Rattle.wording.proofs.orders.number_in.Goals as goal
 
