@@ -1,6 +1,5 @@
 -- `replies::put_finish` meets its contract: the line, case by case.
 use Rattle.transcripts.specs.Replies.{finish_line}
-use borrow.Author.Rules.{rules}
 use Rattle.transcripts.proofs.replies.put_finish.Goals as goal
 
 pub returns-in-Finished : goal.returns-in-Finished
@@ -9,4 +8,4 @@ returns-in-Finished c = rw c.in-Finished.is c.put_finished.ensures
 
 pub returns-in-Refused : goal.returns-in-Refused
 unfolding finish_line
-returns-in-Refused c = rw c.in-Refused.is c.Put-refused.ensures
+returns-in-Refused c = rw c.in-Refused.is c.put_refused.ensures

@@ -1,11 +1,7 @@
 -- `replies::put_finished` meets its contract: the fields are put one after the other, case by case.
 use Rattle.wording.proofs.Putting.{puts_more}
 use Rattle.transcripts.specs.Replies.{line_of, finished_line}
-use borrow.Author.Rules.{rules}
 use Rattle.transcripts.proofs.replies.put_finished.Goals as goal
-
--- LEFT slice-aggregate-put-bytes : tie.Need-slice-aggregate-put-bytes
--- slice-aggregate-put-bytes c = search rules
 
 pub returns-in-Granted : goal.returns-in-Granted
 unfolding line_of finished_line

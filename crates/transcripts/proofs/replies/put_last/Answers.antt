@@ -1,6 +1,5 @@
 -- `replies::put_last` meets its contract: the bytes are put one after the other.
 use Rattle.wording.proofs.Putting.{puts_more}
-use borrow.Author.Rules.{rules}
 use Rattle.transcripts.proofs.replies.put_last.Goals as goal
 
 pub returns : goal.returns

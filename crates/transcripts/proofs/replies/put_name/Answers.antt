@@ -11,23 +11,23 @@ use Rattle.transcripts.proofs.replies.put_name.Goals as goal
 
 pub returns-then-names-o : goal.returns-then-names-o
 returns-then-names-o c =
-    let all : length c.args.t4 ≡ 32 = search rules in
+    let all : length c.args.lengths ≡ 32 = search rules in
     let args = c.args in
-    let none : min args.names (length args.t4) ≤ args.operation.0 = omega (arith, all, c.if-names-o.true) in
+    let none : min args.names (length args.lengths) ≤ args.operation.0 = omega (arith, all, c.if-names-o.true) in
     puts_as (sym (no_name _ _ _ _ none)) (rw c.least.ensures (puts_nothing _ _))
 
 pub returns-then-o-ge32 : goal.returns-then-o-ge32
 returns-then-o-ge32 c =
-    let all : length c.args.t4 ≡ 32 = search rules in
+    let all : length c.args.lengths ≡ 32 = search rules in
     let args = c.args in
-    let none : min args.names (length args.t4) ≤ args.operation.0 = omega (arith, all, c.if-o-ge32.true) in
+    let none : min args.names (length args.lengths) ≤ args.operation.0 = omega (arith, all, c.if-o-ge32.true) in
     puts_as (sym (no_name _ _ _ _ none)) (rw c.least-then-o-ge32.ensures (puts_nothing _ _))
 
 pub returns : goal.returns
 returns c =
-    let all : length c.args.t4 ≡ 32 = search
+    let all : length c.args.lengths ≡ 32 = search
     rules in
-    let every : length c.args.t5 ≡ 512 = search
+    let every : length c.args.bytes ≡ 512 = search
     rules in
     puts_as (sym (spelling_read _ _ _ _ _ all every c.if-names-o.false
     c.if-o-ge32.false

@@ -1,10 +1,6 @@
 -- `replies::put_refused` meets its contract: the line, in other words.
 use Rattle.transcripts.specs.Replies.{line_of, refused_line}
-use borrow.Author.Rules.{rules}
 use Rattle.transcripts.proofs.replies.put_refused.Goals as goal
-
--- LEFT slice-aggregate-put-last : tie.Need-slice-aggregate-put-last
--- slice-aggregate-put-last c = search rules
 
 pub returns : goal.returns
 unfolding line_of refused_line

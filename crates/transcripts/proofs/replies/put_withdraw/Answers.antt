@@ -1,10 +1,6 @@
 -- `replies::put_withdraw` meets its contract: the line, case by case.
 use Rattle.transcripts.specs.Replies.{line_of, withdraw_line}
-use borrow.Author.Rules.{rules}
 use Rattle.transcripts.proofs.replies.put_withdraw.Goals as goal
-
--- LEFT slice-aggregate-put-last : tie.Need-slice-aggregate-put-last
--- slice-aggregate-put-last c = search rules
 
 pub returns-in-Withdrawn : goal.returns-in-Withdrawn
 unfolding line_of withdraw_line
@@ -12,4 +8,4 @@ returns-in-Withdrawn c = rw c.in-Withdrawn.is c.put_last.ensures
 
 pub returns-in-Refused : goal.returns-in-Refused
 unfolding line_of withdraw_line
-returns-in-Refused c = rw c.in-Refused.is c.Put-refused.ensures
+returns-in-Refused c = rw c.in-Refused.is c.put_refused.ensures

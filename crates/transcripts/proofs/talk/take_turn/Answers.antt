@@ -1,7 +1,6 @@
 -- `talk::take_turn` meets its contract: each kind of line is a law of turns (Turns.antt).
 use mathlib.Core.Path.{refl}
-use Rattle.transcripts.proofs.Turns.{name_within, ask_turned, finish_turned, withdraw_turned, unread_turned}
-use borrow.Author.Rules.{rules}
+use Rattle.transcripts.proofs.Turns.{ask_turned, finish_turned, withdraw_turned, unread_turned}
 use Rattle.transcripts.proofs.talk.take_turn.Goals as goal
 
 pub returns-in-Ask : goal.returns-in-Ask
@@ -22,4 +21,4 @@ returns-in-Withdraw c =
 pub returns-in-Unreadable : goal.returns-in-Unreadable
 returns-in-Unreadable c =
     unread_turned _ c.read_line-order.ensures
-    c.in-Unreadable.is refl refl c.Put-refused.ensures
+    c.in-Unreadable.is refl refl c.put_refused-at.ensures

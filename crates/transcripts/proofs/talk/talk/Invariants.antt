@@ -1,12 +1,8 @@
 -- `talk::talk` meets its contract. The invariant: what is printed so far is told of the lines before place i (`Told`).
 use Prim.Native.Nat.{◌-◌}
-use native.Mathlib.Omega.{arith}
-use borrow.Author.Rules.{rules}
-use lib.ListN.{length, drop, drop_of_length-le}
+use lib.ListN.{length, drop}
 use Rattle.wording.specs.Lines.{lines_of}
-use Rattle.wording.proofs.Pieces.{no_lines}
-use Rattle.wording.proofs.Putting.{puts_length}
-use Rattle.transcripts.proofs.Onward.{Told, none_told, all_told, one_more_told, line_within, lines_from}
+use Rattle.transcripts.proofs.Onward.{Told}
 use Rattle.transcripts.proofs.talk.talk.Given as goal
 
 abbrev pub invariant-loop-i : goal.invariant-loop-i

@@ -1,6 +1,5 @@
 -- `transcript::opened` meets its contract: a sound table is not refused (`opened_blank`).
 use Rattle.transcripts.proofs.Openings.{opened_blank}
-use borrow.Author.Rules.{rules}
 use Rattle.transcripts.proofs.transcript.opened.Goals as goal
 
 pub returns : goal.returns

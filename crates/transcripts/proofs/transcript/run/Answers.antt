@@ -1,6 +1,5 @@
 -- `transcript::run` meets its contract: the path line, and the talk behind it.
 use Rattle.wording.proofs.Putting.{puts_more}
-use borrow.Author.Rules.{rules}
 use Rattle.transcripts.proofs.transcript.run.Goals as goal
 
 pub returns : goal.returns

@@ -1,10 +1,8 @@
 -- `transcript::transcript` meets its contract: the input is too long, its path is refused, or it is accepted (Wholes.antt).
 use mathlib.Core.Path.{sym}
-use native.Mathlib.Omega.{arith}
 use lib.Seq.{length-take-le}
 use Rattle.text.proofs.Spans.{span_within}
-use Rattle.transcripts.proofs.Wholes.{prints_too_long, table_sound, prints_accepted, prints_refused}
-use borrow.Author.Rules.{rules}
+use Rattle.transcripts.proofs.Wholes.{table_sound, prints_accepted, prints_refused}
 use Rattle.transcripts.proofs.transcript.transcript.Goals as goal
 
 pub slice_bounds-compile-end : goal.slice_bounds-compile-end
