@@ -8,7 +8,7 @@ use Prim.Native.Nat.{ℕ, suc, ◌-◌, ◌<◌, ◌≤◌}
 use native.Mathlib.Omega.{arith}
 use lib.Bits.{bit_and}
 use lib.Dec.{eqb}
-use lib.ListN.{length, get_or, set, take, length-map}
+use lib.ListN.{length, get_or, take, length-map}
 use lib.Seq.{get_or-take, length-take-le}
 use Rattle.meaning.specs.Names.{Name, key}
 use Rattle.meaning.specs.Sets.{meeting, union_of}

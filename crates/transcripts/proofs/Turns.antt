@@ -4,7 +4,6 @@ use mathlib.Core.List.{List}
 use Prim.Native.Nat.{ℕ, ◌-◌, ◌≤◌}
 use borrow.Author.Rules.{part_to_end}
 use lib.ListN.{length, take, drop}
-use Rattle.meaning.specs.Calls.Call.{ask}
 use Rattle.standing.specs.declared.numbers.Terminal.{Terminal}
 use Rattle.standing.specs.declared.entries.Entry.{Entry}
 use Rattle.standing.specs.declared.records.Session.{Session}

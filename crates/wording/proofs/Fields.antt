@@ -1,6 +1,6 @@
 -- The fields of a line, by where its first space is; and the call that they are.
 use mathlib.Core.Path.{◌≡◌, refl, sym, ap, subst, ◌∙◌}
-use mathlib.Core.Bool.{Bool, true, false, not, ◌&&◌, false≢true, and-false}
+use mathlib.Core.Bool.{Bool, true, false, ◌&&◌, false≢true, and-false}
 use mathlib.Core.List.{List, [], ◌∷◌}
 use mathlib.Core.Option.{some, none}
 use Prim.Native.Nat.{ℕ, suc, ◌+◌, ◌≤◌, ◌<◌}

@@ -5,12 +5,6 @@ use borrow.Author.Tests.{lt-ltb, le-ltb}
 use Rattle.text.specs.Tokens.{word_token}
 use Rattle.text.proofs.tokens.word_token.Goals as goal
 
--- LEFT slice-aggregate-same-name : tie.Need-slice-aggregate-same-name
--- slice-aggregate-same-name c = search rules
-
--- LEFT slice-aggregate-same-name-2 : tie.Need-slice-aggregate-same-name-2
--- slice-aggregate-same-name-2 c = search rules
-
 pub returns-then-same_name : goal.returns-then-same_name
 unfolding word_token
 returns-then-same_name c = simp (sym c.same_name.ensures ∙ c.if-same_name.true)

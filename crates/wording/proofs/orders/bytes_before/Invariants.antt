@@ -1,11 +1,9 @@
 -- `orders::bytes_before` meets its contract. The invariant: the first i bytes are others than b (`Passed`).
 use mathlib.Core.Bool.{Bool, not}
 use Prim.Native.Nat.{ℕ, ◌≤◌, ◌-◌}
-use native.Mathlib.Omega.{arith}
-use borrow.Author.Tests.{eq-eqb, ne_eqb}
 use lib.Dec.{eqb}
 use lib.ListN.{length}
-use Rattle.text.proofs.Spans.{Passed, none_passed, one_more_passed, passed_to_failing, passed_to_end}
+use Rattle.text.proofs.Spans.{Passed}
 use Rattle.wording.proofs.orders.bytes_before.Given as goal
 
 abbrev pub is_other : ℕ → ℕ → Bool

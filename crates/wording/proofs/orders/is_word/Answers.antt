@@ -1,10 +1,7 @@
 -- `orders::is_word` meets its contract. The invariant: the two are the same exactly if what is left of them behind the
 -- first i bytes is.
-use mathlib.Core.Path.{◌≡◌, refl, sym, ◌∙◌}
-use Prim.Native.Nat.{◌≤◌, ◌-◌}
+use mathlib.Core.Path.{sym, ◌∙◌}
 use native.Mathlib.Omega.{arith}
-use lib.ListN.{length, drop}
-use Rattle.meaning.specs.Names.{same}
 use Rattle.text.proofs.Sames.{lengths_differ_is_false, equal_bytes, other_bytes, nothing_left}
 use Rattle.wording.proofs.orders.is_word.Goals as goal
 

@@ -1,14 +1,9 @@
 -- `orders::number_in` meets its contract. The invariant: the first i bytes are digits, with this value, and the rest decides.
-use mathlib.Core.Path.{◌≡◌, refl, sym, ◌∙◌}
-use mathlib.Core.Logic.{inl, inr}
+use mathlib.Core.Path.{◌≡◌}
 use Prim.Native.Nat.{◌≤◌, ◌-◌}
-use native.Mathlib.Omega.{arith}
-use borrow.Author.Rules.{rules}
-use borrow.Author.Tests.{not-true, not-false}
-use lib.ListN.{length, drop, get_or, drop_of_length-le}
+use lib.ListN.{length, drop}
 use Rattle.wording.specs.Orders.{all_digits, value_from, value_of}
-use Rattle.wording.proofs.Numbers.{Small, no_digits, small_next, digit_range, digit_here, no_digit_here, value_here}
-use Rattle.wording.proofs.Numbers.{not_one_to_three, not_all_digits, is_the_number, all_of_none, value_of_none}
+use Rattle.wording.proofs.Numbers.{Small}
 use Rattle.wording.proofs.orders.number_in.Given as goal
 
 abbrev pub invariant-loop-i : goal.invariant-loop-i

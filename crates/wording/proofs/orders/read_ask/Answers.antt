@@ -1,7 +1,6 @@
 -- `orders::read_ask` meets its contract: each way through it is a law of the fields (AskWays.antt).
 use native.Mathlib.Omega.{arith}
 use Rattle.wording.proofs.AskWays.{end_within, no_name, empty_name, space_in_name, whole_ask}
-use borrow.Author.Rules.{rules}
 use Rattle.wording.proofs.orders.read_ask.Goals as goal
 
 pub overflow_add-end : goal.overflow_add-end

@@ -1,9 +1,6 @@
 -- `orders::read_line` meets its contract: each way through it is a law of the fields (LineWays.antt).
 use mathlib.Core.Path.{sym, ◌∙◌}
-use native.Mathlib.Omega.{arith}
-use lib.Seq.{length-take-le}
 use Rattle.wording.proofs.LineWays.{one_field_only, word_is_ask, word_is_not_ask}
-use borrow.Author.Rules.{rules}
 use Rattle.wording.proofs.orders.read_line.Goals as goal
 
 pub returns-then-line-end : goal.returns-then-line-end

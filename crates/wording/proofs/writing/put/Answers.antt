@@ -1,7 +1,6 @@
 -- `writing::put` meets its contract: there is room for the byte, or the output ends before its place.
 use mathlib.Core.Path.{refl, sym}
 use native.Mathlib.Omega.{arith}
-use borrow.Author.Rules.{rules}
 use Rattle.wording.specs.Writing.{put_over}
 use Rattle.wording.proofs.Putting.{put_behind}
 use Rattle.wording.proofs.writing.put.Goals as goal

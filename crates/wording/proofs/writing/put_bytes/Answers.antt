@@ -1,13 +1,9 @@
 -- `writing::put_bytes` meets its contract. The invariant: the first i bytes are put.
-use mathlib.Core.Path.{◌≡◌, sym}
-use Prim.Native.Nat.{◌≤◌, ◌-◌}
+use mathlib.Core.Path.{sym}
 use native.Mathlib.Numerals.{add-one}
 use native.Mathlib.Omega.{arith}
-use borrow.Author.Rules.{rules}
-use lib.ListN.{length, take}
-use lib.Seq.{take-length, take-suc}
-use Rattle.wording.specs.Writing.{Puts}
-use Rattle.wording.proofs.Putting.{puts_nothing, puts_more, puts_length, puts_as}
+use lib.Seq.{take-suc}
+use Rattle.wording.proofs.Putting.{puts_nothing, puts_more, puts_as}
 use Rattle.wording.proofs.writing.put_bytes.Goals as goal
 
 pub loop-i-init : goal.loop-i-init

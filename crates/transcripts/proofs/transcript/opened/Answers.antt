@@ -1,0 +1,8 @@
+-- `transcript::opened` meets its contract: a sound table is not refused (`opened_blank`).
+use Rattle.transcripts.proofs.Openings.{opened_blank}
+use Rattle.transcripts.proofs.transcript.opened.Goals as goal
+
+pub returns : goal.returns
+returns c =
+    opened_blank _ _ _ _ c.open_line-out.result.reply c.requires
+    (rw c.nothing.ensures at c.open_line-out.ensures)

@@ -1,0 +1,31 @@
+-- `transcript::transcript` meets its contract: the input is too long, its path is refused, or it is accepted (Wholes.antt).
+use mathlib.Core.Path.{sym}
+use lib.Seq.{length-take-le}
+use Rattle.text.proofs.Spans.{span_within}
+use Rattle.transcripts.proofs.Wholes.{table_sound, prints_accepted, prints_refused}
+use Rattle.transcripts.proofs.transcript.transcript.Goals as goal
+
+pub slice_bounds-compile-end : goal.slice_bounds-compile-end
+slice_bounds-compile-end c =
+    let most = span_within _ c.args.input.now in
+    sym (length-take-le _ _ (rw c.bytes_before-end.ensures most))
+
+pub run-requires : goal.run-requires
+run-requires c =
+    table_sound _ _ c.bytes_before-end.ensures _
+    c.compile-compiled.ensures c.in-Accepted.is
+
+pub returns-in-Accepted : goal.returns-in-Accepted
+returns-in-Accepted c =
+    prints_accepted _ _ c.bytes_before-end.ensures _
+    c.compile-compiled.ensures
+    c.if-input-gt65536.false
+    c.in-Accepted.is _ c.behind.ensures
+    c.run.ensures
+
+pub returns-in-Refused : goal.returns-in-Refused
+returns-in-Refused c =
+    prints_refused _ _ c.bytes_before-end.ensures _
+    c.compile-compiled.ensures
+    c.if-input-gt65536.false _
+    c.in-Refused.is c.put_refused_path.ensures
