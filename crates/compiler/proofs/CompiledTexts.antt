@@ -5,7 +5,7 @@ use Prim.Native.Nat.{ℕ}
 use native.Mathlib.Omega.{arith}
 use lib.ListN.{length}
 use Rattle.meaning.specs.Names.{Name}
-use Rattle.meaning.specs.Words.{Expr, names}
+use Rattle.meaning.specs.Words.{Expr}
 use Rattle.meaning.specs.Operations.{distinct}
 use Rattle.meaning.proofs.Numbering.{size_names}
 use Rattle.grammar.specs.Refusals.{Accepted}

@@ -41,7 +41,7 @@ module _ (s : List ℕ) (d : ℕ) (t : Table) where
       (λ a ks. refl) (λ a c ks. refl) (λ c. refl)
 
   pub expression_refused : (r : Reading) → ExpressionRead ends_sequence s d t r → (r.number ≡ 0 → ⊥) → ExpressionRead ends_expression s d t r
-  expression_refused r = growing.still-refused wanted_sum sum_read either_way s d t ends_sequence ends_expression r
+  expression_refused r = growing.still_refused wanted_sum sum_read either_way s d t ends_sequence ends_expression r
 
   module _ (e : Reading) (given : ExpressionRead ends_sequence s d t e) (z : e.number ≡ 0) where
     pub expression_ends : sequence_from s e.left ≡ Ends → ExpressionRead ends_expression s d t e

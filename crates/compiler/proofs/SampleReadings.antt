@@ -1,7 +1,7 @@
 -- The samples read as document 01 says. What the texts come to is computed, in one list, and is what the samples say; and the contract of
 -- `compile` leaves no other answer (`compiles_one`).
 use mathlib.Core.Path.{◌≡◌, refl, ap, ◌∙◌}
-use mathlib.Core.List.{List, ◌∷◌, map, Memᴰ}
+use mathlib.Core.List.{List, [], ◌∷◌, map, Memᴰ}
 use Rattle.meaning.specs.Names.{key, same}
 use Rattle.meaning.specs.Words.{names}
 use Rattle.meaning.specs.Operations.{holds, added, distinct, distinct_after, number_of}
@@ -30,6 +30,7 @@ all_computed = refl
 
 -- equal lists have equal elements
 each_computed : (ss : List Sample) → computed ss ≡ said ss → (s : Sample) → Memᴰ s ss → shown (compiled (bytes s.text)) ≡ s.reads
+each_computed [] e s m = elim m [ ]
 each_computed (x ∷ ss) e s (Memᴰ.head is) = let here : shown (compiled (bytes x.text)) ≡ x.reads = cc in rw is here
 each_computed (x ∷ ss) e s (Memᴰ.tail m) = let behind : computed ss ≡ said ss = cc in each_computed ss behind s m
 

@@ -43,7 +43,7 @@ module _ (s : List ℕ) (d : ℕ) (t : Table) where
       (λ a ks. refl) (λ a c ks. refl) (λ c. refl)
 
   pub sequence_refused : (r : Reading) → SequenceRead ends_factor s d t r → (r.number ≡ 0 → ⊥) → SequenceRead ends_sequence s d t r
-  sequence_refused r = growing.still-refused wanted_run run_read in_order s d t ends_factor ends_sequence r
+  sequence_refused r = growing.still_refused wanted_run run_read in_order s d t ends_factor ends_sequence r
 
   module _ (q : Reading) (given : SequenceRead ends_factor s d t q) (z : q.number ≡ 0) where
     pub sequence_ends : factor_from s q.left ≡ Ends → SequenceRead ends_sequence s d t q

@@ -1,0 +1,18 @@
+-- `readers::conclude` meets its contract: the text ends, or what stands there is refused (Concluding).
+use native.Mathlib.Omega.{arith}
+use Rattle.compiler.proofs.Arms.{but_text_end, not_text_end}
+use Rattle.compiler.proofs.Concluding.{concluded_accepts, concluded_refuses}
+use Rattle.compiler.proofs.FactorPaths.{start_fits}
+use Rattle.compiler.proofs.readers.conclude.Goals as goal
+
+pub overflow_add-at : goal.overflow_add-at
+overflow_add-at c = omega (arith, c.requires, start_fits _ _ c.next-r.ensures)
+
+pub returns-in-TextEnd : goal.returns-in-TextEnd
+returns-in-TextEnd c = concluded_accepts _ _ _ _ c.next-r.ensures c.in-TextEnd.is _ c.complete-table.ensures
+
+pub returns-in_default : goal.returns-in_default
+returns-in_default c =
+    concluded_refuses _ _ _ _ c.next-r.ensures (not_text_end
+    c.next-r.result.token (but_text_end _ c.in_default.not-TextEnd)) _
+    (simp (c.refuse.ensures, c.refusal_of.ensures))

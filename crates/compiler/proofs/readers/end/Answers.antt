@@ -1,0 +1,64 @@
+-- `readers::end` meets its contract: each way through it is a lemma of Concluding.
+use native.Mathlib.Omega.{arith}
+use Rattle.compiler.proofs.Arms.{but_end, not_end}
+use Rattle.compiler.proofs.Concluding.{ended_inside, ended_ends, ended_refuses, end_fits, end_starts, rest_fits}
+use Rattle.compiler.proofs.readers.end.Goals as goal
+
+pub returns-then-e-ne0 : goal.returns-then-e-ne0
+returns-then-e-ne0 c = ended_inside _ _ c.if-e-ne0.true _ c.refuse.ensures
+
+pub overflow_add-from : goal.overflow_add-from
+overflow_add-from c = omega (
+  arith,
+  end_fits c.args.text.now
+      c.args.e
+      c.if-e-ne0.false _ c.next-r.ensures
+      c.requires.0,
+  c.requires.1,
+)
+
+pub slice_bounds-conclude-count : goal.slice_bounds-conclude-count
+slice_bounds-conclude-count c = end_fits c.args.text.now
+    c.args.e
+    c.if-e-ne0.false _ c.next-r.ensures
+    c.requires.0
+
+pub slice_bounds-conclude-start : goal.slice_bounds-conclude-start
+slice_bounds-conclude-start c = end_fits c.args.text.now
+    c.args.e
+    c.if-e-ne0.false _ c.next-r.ensures
+    c.requires.0
+
+pub conclude-requires : goal.conclude-requires
+conclude-requires c = omega (
+  arith,
+  rest_fits
+      c.args.text.now
+      c.args.e
+      c.if-e-ne0.false _ c.next-r.ensures
+      c.requires.0,
+  c.requires.1,
+)
+
+pub overflow_add-k : goal.overflow_add-k
+overflow_add-k c = omega (
+  arith,
+  end_starts
+      c.args.text.now
+      c.args.e
+      c.if-e-ne0.false _ c.next-r.ensures
+      c.requires.0,
+  c.requires.1,
+)
+
+pub returns-in-End : goal.returns-in-End
+returns-in-End c = ended_ends _ _ c.if-e-ne0.false _
+    c.next-r.ensures c.in-End.is _
+    c.conclude.ensures
+
+pub returns-in_default : goal.returns-in_default
+returns-in_default c =
+    ended_refuses _ _ c.if-e-ne0.false _
+    c.next-r.ensures (not_end c.next-r.result.token
+    (but_end _ c.in_default.not-End)) _
+    (simp (c.refuse-in_default.ensures, c.refusal_of.ensures))
