@@ -49,11 +49,7 @@ pub fn wabbitsen_ask(
 }
 
 // A terminal finishes what it runs.
-pub fn wabbitsen_finish(
-    record: &mut Record,
-    list: &mut [Entry],
-    terminal: Terminal,
-) -> Reply
+pub fn wabbitsen_finish(record: &mut Record, list: &mut [Entry], terminal: Terminal) -> Reply
     ensures { FinishesFor «record».old list.old terminal result «record».new list.new }
 {
     let before = *record;
@@ -64,11 +60,7 @@ pub fn wabbitsen_finish(
 }
 
 // A terminal withdraws what it asked for.
-pub fn wabbitsen_withdraw(
-    record: &mut Record,
-    list: &mut [Entry],
-    terminal: Terminal,
-) -> Reply
+pub fn wabbitsen_withdraw(record: &mut Record, list: &mut [Entry], terminal: Terminal) -> Reply
     ensures { WithdrawsFor «record».old list.old terminal result «record».new list.new }
 {
     let before = *record;
