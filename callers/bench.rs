@@ -98,11 +98,7 @@ fn bench_transcript() {
 pub extern "C" fn main(_count: i32, _words: *const *const u8) -> i32 {
     wrapper::assert_layout();
     let words: Vec<String> = std::env::args().skip(1).collect();
-    let how = match words.first() {
-        Some(machine) if machine != "x86_64" => ", under the emulator: only the ratios say something",
-        _ => "",
-    };
-    println!("machine: {}{how}", words.join(", "));
+    println!("machine: {}", words.join(", "));
     println!("the best of {ROUNDS} rounds of each side, by turns; buffers are not cleared between runs");
     println!("Rust makes the same full test at every call, in one pass, and compiles with each token read once and sets as bits");
     session::FAST.store(true, Relaxed);

@@ -2,25 +2,40 @@
 // `transcripts::transcript::transcript`'s, whose contract says the exact output; here are only the calls that read and write.
 #![tactic(auto)]
 
-ghost use Rattle.std.specs.Prelude.{◌≡◌, length};
+ghost use Rattle.std.specs.Prelude.{◌≡◌, ◌≤◌, length, IfOk};
 
-use libc::{STDIN_FILENO, STDOUT_FILENO};
 use standing::numbers::least;
+use std::io;
+use std::io::{Read, Write};
 use transcripts::transcript::transcript;
 
 // One write takes at most so much.
 const PIECE: usize = 65536;
 
+// Reads until the buffer is full or the input ends; how many bytes that were.
+fn read_full<R: Read>(from: &mut R, buffer: &mut [u8]) -> io::Result<usize>
+    ensures { IfOk result (λ n. n ≤ length buffer.new) }
+{
+    let mut done: usize = 0;
+    while done < buffer.len() {
+        let n = from.read(&mut buffer[done..])?;
+        if n == 0 {
+            break;
+        }
+        done += n;
+    }
+    Ok(done)
+}
+
 // Writes all of the bytes, piece by piece; what is left when a write fails is not tried again.
-fn write_pieces(bytes: &[u8]) {
+fn write_pieces<W: Write>(out: &mut W, bytes: &[u8]) -> io::Result<()> {
     let mut done: usize = 0;
     while done < bytes.len() {
         let end = done + least(PIECE, bytes.len() - done);
-        if !io::write_all(STDOUT_FILENO, &bytes[done..end]) {
-            return;
-        }
+        out.write_all(&bytes[done..end])?;
         done = end;
     }
+    Ok(())
 }
 
 // One byte more than an input may have.
@@ -30,17 +45,17 @@ fn input_buffer() -> [u8; 65537]
     [0; 65537]
 }
 
-// No transcript is longer (`Transcript-fits`).
+// No transcript is longer (`transcript_fits`).
 fn output_buffer() -> [u8; 720914]
     ensures { 720914 ≡ length result }
 {
     [0; 720914]
 }
 
-fn main() {
+fn main(rt: HostRuntime) -> io::Result<()> {
     let mut input = input_buffer();
-    let n = io::read_full(STDIN_FILENO, &mut input);
+    let n = read_full(&mut rt.stdin(), &mut input)?;
     let mut output = output_buffer();
     let said = transcript(&input[..n], &mut output);
-    write_pieces(&output[..said]);
+    write_pieces(&mut rt.stdout(), &output[..said])
 }

@@ -4,130 +4,153 @@
 
 use compiler::readers::compile;
 use compiler::replies::Reply;
-use libc::STDOUT_FILENO;
+use std::io;
+use std::io::{BufWriter, Read, Write};
 use table::cells::Table;
 use table::numbers::Operation;
 
 // The byte behind a text.
 const TILDE: u8 = 126;
 
-fn print(s: &[u8]) {
-    io::write_all(STDOUT_FILENO, s);
+// No more of an input is read.
+const LIMIT: u64 = 65536;
+
+fn print<W: Write>(out: &mut W, s: &[u8]) -> io::Result<()> {
+    out.write_all(s)
 }
 
-fn print_number(n: u64) {
-    io::print_decimal(STDOUT_FILENO, n);
+fn print_number<W: Write>(out: &mut W, n: u64) -> io::Result<()> {
+    write!(out, "{n}")
 }
 
 // A set as the document writes it, positions from 1.
-fn print_set(s: u64) {
-    print(b" {");
+fn print_set<W: Write>(out: &mut W, s: u64) -> io::Result<()> {
+    print(out, b" {")?;
     let mut rest = s;
     for p in 0..64u64 {
         if rest % 2 == 1 {
-            print_number(p + 1);
+            print_number(out, p + 1)?;
             if rest > 1 {
-                print(b" ");
+                print(out, b" ")?;
             }
         }
         rest = rest / 2;
     }
-    print(b"}");
+    print(out, b"}")
 }
 
-fn print_rows(rows: [u64; 64], n: usize) {
-    print(b" rows");
+fn print_rows<W: Write>(out: &mut W, rows: [u64; 64], n: usize) -> io::Result<()> {
+    print(out, b" rows")?;
     for p in 0..64usize {
         if p < n {
-            print_set(rows[p]);
+            print_set(out, rows[p])?;
         }
     }
+    Ok(())
 }
 
-fn print_operation(o: Operation) {
-    print(b" ");
-    print_number(o.0 as u64);
+fn print_operation<W: Write>(out: &mut W, o: Operation) -> io::Result<()> {
+    print(out, b" ")?;
+    print_number(out, o.0 as u64)
 }
 
-fn print_operations(operations: [Operation; 64], n: usize) {
-    print(b" operations");
+fn print_operations<W: Write>(
+    out: &mut W,
+    operations: [Operation; 64],
+    n: usize,
+) -> io::Result<()> {
+    print(out, b" operations")?;
     for p in 0..64usize {
         if p < n {
-            print_operation(operations[p]);
+            print_operation(out, operations[p])?;
         }
     }
+    Ok(())
 }
 
-fn print_name(bytes: [u8; 512], i: usize, length: u8) {
-    print(b" ");
+fn print_name<W: Write>(out: &mut W, bytes: [u8; 512], i: usize, length: u8) -> io::Result<()> {
+    print(out, b" ")?;
     let n = length as usize;
     if n <= 16 {
         if i < 32 {
             let from = 16 * i;
             let to = from + n;
-            print(&bytes[from..to]);
+            print(out, &bytes[from..to])?;
         }
     }
+    Ok(())
 }
 
-fn print_names(lengths: [u8; 32], bytes: [u8; 512], n: usize) {
-    print(b" names");
+fn print_names<W: Write>(
+    out: &mut W,
+    lengths: [u8; 32],
+    bytes: [u8; 512],
+    n: usize,
+) -> io::Result<()> {
+    print(out, b" names")?;
     for i in 0..32usize {
         if i < n {
-            print_name(bytes, i, lengths[i]);
+            print_name(out, bytes, i, lengths[i])?;
         }
     }
+    Ok(())
 }
 
-fn print_table(t: Table) {
-    print(b"path ");
-    print_number(t.positions as u64);
-    print(b" ");
-    print_number(t.names as u64);
-    print(b" ");
-    print_number(t.mark as u64);
-    print(b" start");
-    print_set(t.start);
+fn print_table<W: Write>(out: &mut W, t: Table) -> io::Result<()> {
+    print(out, b"path ")?;
+    print_number(out, t.positions as u64)?;
+    print(out, b" ")?;
+    print_number(out, t.names as u64)?;
+    print(out, b" ")?;
+    print_number(out, t.mark as u64)?;
+    print(out, b" start")?;
+    print_set(out, t.start)?;
     let rows = t.rows;
-    print_rows(rows, t.positions);
+    print_rows(out, rows, t.positions)?;
     let operations = t.operations;
-    print_operations(operations, t.positions);
+    print_operations(out, operations, t.positions)?;
     let lengths = t.lengths;
     let bytes = t.bytes;
-    print_names(lengths, bytes, t.names);
-    print(b"\n");
+    print_names(out, lengths, bytes, t.names)?;
+    print(out, b"\n")
 }
 
-fn show(text: &[u8]) {
+fn show<W: Write>(out: &mut W, text: &[u8]) -> io::Result<()> {
     let r = compile(text);
     let reply = r.reply;
     match reply {
         Reply::Accepted => {
             let table = r.table;
-            print_table(table);
+            print_table(out, table)
         }
         Reply::Refused(why) => {
-            print(b"refused ");
-            print_number(why.number as u64);
-            print(b" at ");
-            print_number(why.place as u64);
-            print(b"\n");
+            print(out, b"refused ")?;
+            print_number(out, why.number as u64)?;
+            print(out, b" at ")?;
+            print_number(out, why.place as u64)?;
+            print(out, b"\n")
         }
     }
 }
 
-fn main() {
-    let mut input = io::large_buffer();
-    let n = io::read_full(0, &mut input);
+// Each text of an input.
+fn show_all<W: Write>(out: &mut W, input: &[u8]) -> io::Result<()> {
     let mut from: usize = 0;
-    for i in 0..65536usize {
-        if i < n {
-            if input[i] == TILDE {
-                if from <= i {
-                    show(&input[from..i]);
-                }
-                from = i + 2;
+    for (i, byte) in input.iter().enumerate() {
+        if *byte == TILDE {
+            if from <= i {
+                show(out, &input[from..i])?;
             }
+            from = i + 2;
         }
     }
+    Ok(())
+}
+
+fn main(rt: HostRuntime) -> io::Result<()> {
+    let mut input = Vec::new(rt.alloc());
+    rt.stdin().take(LIMIT).read_to_end(&mut input)?;
+    let mut out = BufWriter::new(rt.alloc(), rt.stdout())?;
+    show_all(&mut out, &input)?;
+    out.flush()
 }

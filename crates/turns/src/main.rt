@@ -7,16 +7,20 @@ ghost use Rattle.std.specs.Prelude.{◌≤◌, length};
 
 use compiler::readers::compile;
 use compiler::replies::Reply;
-use libc::STDOUT_FILENO;
 use lines::held::{Line, ask_line, finish_line, open_line, withdraw_line};
 use standing::entries::{Entry, blank_entry};
 use standing::numbers::Terminal;
 use standing::records::{Session, State};
+use std::io;
+use std::io::{BufWriter, Read, Write};
 use steps::replies::{AskReply, FinishReply, Finished, Next, OpenReply, WithdrawReply};
 use table::cells::{Table, table_of_zeros};
 use table::numbers::Operation;
 
 const NEWLINE: u8 = 10;
+
+// No more of a script is read.
+const LIMIT: u64 = 65536;
 
 // A number of a script's line, and where it ends.
 #[derive(Clone, Copy)]
@@ -25,17 +29,17 @@ struct Field {
     end: usize,
 }
 
-fn print(s: &[u8]) {
-    io::write_all(STDOUT_FILENO, s);
+fn print<W: Write>(out: &mut W, s: &[u8]) -> io::Result<()> {
+    out.write_all(s)
 }
 
-fn print_number(n: u64) {
-    io::print_decimal(STDOUT_FILENO, n);
+fn print_number<W: Write>(out: &mut W, n: u64) -> io::Result<()> {
+    write!(out, "{n}")
 }
 
-fn print_with(s: &[u8], n: u64) {
-    print(s);
-    print_number(n);
+fn print_with<W: Write>(out: &mut W, s: &[u8], n: u64) -> io::Result<()> {
+    print(out, s)?;
+    print_number(out, n)
 }
 
 fn is_digit(b: u8) -> bool {
@@ -95,64 +99,68 @@ fn behind(text: &[u8], at: usize) -> usize
     text.len()
 }
 
-fn show_open(reply: OpenReply, shows: bool) {
-    if shows {
-        match reply {
-            OpenReply::Opened => print(b"opened\n"),
-            OpenReply::Refused(n) => show_refused(n),
-        }
+fn show_open<W: Write>(out: &mut W, reply: OpenReply, shows: bool) -> io::Result<()> {
+    if !shows {
+        return Ok(());
+    }
+    match reply {
+        OpenReply::Opened => print(out, b"opened\n"),
+        OpenReply::Refused(n) => show_refused(out, n),
     }
 }
 
-fn show_refused(n: u8) {
-    print_with(b"refused ", n as u64);
-    print(b"\n");
+fn show_refused<W: Write>(out: &mut W, n: u8) -> io::Result<()> {
+    print_with(out, b"refused ", n as u64)?;
+    print(out, b"\n")
 }
 
-fn show_ask(reply: AskReply, shows: bool) {
-    if shows {
-        match reply {
-            AskReply::Granted => print(b"granted\n"),
-            AskReply::Delayed(n) => {
-                print_with(b"delayed ", n as u64);
-                print(b"\n");
-            }
-            AskReply::Refused(n) => show_refused(n),
+fn show_ask<W: Write>(out: &mut W, reply: AskReply, shows: bool) -> io::Result<()> {
+    if !shows {
+        return Ok(());
+    }
+    match reply {
+        AskReply::Granted => print(out, b"granted\n"),
+        AskReply::Delayed(n) => {
+            print_with(out, b"delayed ", n as u64)?;
+            print(out, b"\n")
         }
+        AskReply::Refused(n) => show_refused(out, n),
     }
 }
 
-fn show_finished(f: Finished) {
-    print_with(b"finished ", f.examined as u64);
+fn show_finished<W: Write>(out: &mut W, f: Finished) -> io::Result<()> {
+    print_with(out, b"finished ", f.examined as u64)?;
     let next = f.next;
     match next {
         Next::Granted(g) => {
-            print_with(b" granted ", g.terminal.0 as u64);
-            print_with(b" ", g.operation.0 as u64);
+            print_with(out, b" granted ", g.terminal.0 as u64)?;
+            print_with(out, b" ", g.operation.0 as u64)?;
         }
         Next::Nobody => {}
     }
-    print(b"\n");
+    print(out, b"\n")
 }
 
-fn show_finish(reply: FinishReply, shows: bool) {
-    if shows {
-        match reply {
-            FinishReply::Finished(f) => show_finished(f),
-            FinishReply::Refused(n) => show_refused(n),
-        }
+fn show_finish<W: Write>(out: &mut W, reply: FinishReply, shows: bool) -> io::Result<()> {
+    if !shows {
+        return Ok(());
+    }
+    match reply {
+        FinishReply::Finished(f) => show_finished(out, f),
+        FinishReply::Refused(n) => show_refused(out, n),
     }
 }
 
-fn show_withdraw(reply: WithdrawReply, shows: bool) {
-    if shows {
-        match reply {
-            WithdrawReply::Withdrawn(p) => {
-                print_with(b"withdrawn ", p as u64);
-                print(b"\n");
-            }
-            WithdrawReply::Refused(n) => show_refused(n),
+fn show_withdraw<W: Write>(out: &mut W, reply: WithdrawReply, shows: bool) -> io::Result<()> {
+    if !shows {
+        return Ok(());
+    }
+    match reply {
+        WithdrawReply::Withdrawn(p) => {
+            print_with(out, b"withdrawn ", p as u64)?;
+            print(out, b"\n")
         }
+        WithdrawReply::Refused(n) => show_refused(out, n),
     }
 }
 
@@ -172,85 +180,103 @@ fn shown(list: [Entry; 64]) -> usize {
     0
 }
 
-fn show_entry(e: Entry) {
-    print_with(b" ", e.terminal.0 as u64);
-    print_with(b".", e.operation.0 as u64);
+fn show_entry<W: Write>(out: &mut W, e: Entry) -> io::Result<()> {
+    print_with(out, b" ", e.terminal.0 as u64)?;
+    print_with(out, b".", e.operation.0 as u64)
 }
 
-fn show_list(list: [Entry; 64]) {
+fn show_list<W: Write>(out: &mut W, list: [Entry; 64]) -> io::Result<()> {
     let n = shown(list);
     for i in 0..64usize {
         if i < n {
-            show_entry(list[i]);
+            show_entry(out, list[i])?;
         }
     }
+    Ok(())
 }
 
-fn show_state(state: State) {
+fn show_state<W: Write>(out: &mut W, state: State) -> io::Result<()> {
     match state {
-        State::Free => print(b" free"),
-        State::Running(t) => print_with(b" ", t.0 as u64),
+        State::Free => print(out, b" free"),
+        State::Running(t) => print_with(out, b" ", t.0 as u64),
     }
 }
 
-fn show_line(line: Line, shows: bool) {
-    if shows {
-        let session = line.session;
-        print_number(session.set);
-        let state = session.state;
-        show_state(state);
-        print_with(b" ", session.waiting as u64);
-        let list = line.list;
-        show_list(list);
-        print(b"\n");
+fn show_line<W: Write>(out: &mut W, line: Line, shows: bool) -> io::Result<()> {
+    if !shows {
+        return Ok(());
     }
+    let session = line.session;
+    print_number(out, session.set)?;
+    let state = session.state;
+    show_state(out, state)?;
+    print_with(out, b" ", session.waiting as u64)?;
+    let list = line.list;
+    show_list(out, list)?;
+    print(out, b"\n")
 }
 
-fn opened(line: Line, table: Table, shows: bool) -> Line {
+fn opened<W: Write>(out: &mut W, line: Line, table: Table, shows: bool) -> io::Result<Line> {
     let r = open_line(line, table);
     let reply = r.reply;
-    show_open(reply, shows);
-    r.line
+    show_open(out, reply, shows)?;
+    Ok(r.line)
 }
 
-fn compiled(line: Line, text: &[u8], shows: bool) -> Line {
+fn compiled<W: Write>(out: &mut W, line: Line, text: &[u8], shows: bool) -> io::Result<Line> {
     let r = compile(text);
     let reply = r.reply;
     match reply {
         Reply::Accepted => {
             let table = r.table;
-            opened(line, table, shows)
+            opened(out, line, table, shows)
         }
         Reply::Refused(why) => {
             if shows {
-                print_with(b"refused ", why.number as u64);
-                print_with(b" at ", why.place as u64);
-                print(b"\n");
+                print_with(out, b"refused ", why.number as u64)?;
+                print_with(out, b" at ", why.place as u64)?;
+                print(out, b"\n")?;
             }
-            line
+            Ok(line)
         }
     }
 }
 
-fn asked(line: Line, terminal: Terminal, name: &[u8], shows: bool) -> Line {
+fn asked<W: Write>(
+    out: &mut W,
+    line: Line,
+    terminal: Terminal,
+    name: &[u8],
+    shows: bool,
+) -> io::Result<Line> {
     let r = ask_line(line, terminal, name);
     let reply = r.reply;
-    show_ask(reply, shows);
-    r.line
+    show_ask(out, reply, shows)?;
+    Ok(r.line)
 }
 
-fn finished(line: Line, terminal: Terminal, shows: bool) -> Line {
+fn finished<W: Write>(
+    out: &mut W,
+    line: Line,
+    terminal: Terminal,
+    shows: bool,
+) -> io::Result<Line> {
     let r = finish_line(line, terminal);
     let reply = r.reply;
-    show_finish(reply, shows);
-    r.line
+    show_finish(out, reply, shows)?;
+    Ok(r.line)
 }
 
-fn withdrawn(line: Line, terminal: Terminal, shows: bool) -> Line {
+fn withdrawn<W: Write>(
+    out: &mut W,
+    line: Line,
+    terminal: Terminal,
+    shows: bool,
+) -> io::Result<Line> {
     let r = withdraw_line(line, terminal);
     let reply = r.reply;
-    show_withdraw(reply, shows);
-    r.line
+    show_withdraw(out, reply, shows)?;
+    Ok(r.line)
 }
 
 // A number cut down to a terminal's or a byte's width.
@@ -363,9 +389,9 @@ fn damage_line(line: Line, s: &[u8], kind: Field) -> Line {
 }
 
 // One line of the script.
-fn turn(line: Line, s: &[u8], shows: bool) -> Line {
+fn turn<W: Write>(out: &mut W, line: Line, s: &[u8], shows: bool) -> io::Result<Line> {
     if s.len() == 0 {
-        return line;
+        return Ok(line);
     }
     let letter = s[0];
     let a = number(s, 2);
@@ -373,24 +399,24 @@ fn turn(line: Line, s: &[u8], shows: bool) -> Line {
     match letter {
         b'p' => {
             let from = within(s, 2);
-            compiled(line, &s[from..], shows)
+            compiled(out, line, &s[from..], shows)
         }
         b'o' => {
             let table = line.session.table;
-            opened(line, table, shows)
+            opened(out, line, table, shows)
         }
         b'a' => {
             let from = behind(s, a.end);
-            asked(line, terminal, &s[from..], shows)
+            asked(out, line, terminal, &s[from..], shows)
         }
-        b'f' => finished(line, terminal, shows),
-        b'w' => withdrawn(line, terminal, shows),
+        b'f' => finished(out, line, terminal, shows),
+        b'w' => withdrawn(out, line, terminal, shows),
         b's' => {
-            show_line(line, shows);
-            line
+            show_line(out, line, shows)?;
+            Ok(line)
         }
-        b'd' => damage_line(line, s, a),
-        _ => line,
+        b'd' => Ok(damage_line(line, s, a)),
+        _ => Ok(line),
     }
 }
 
@@ -411,19 +437,20 @@ fn nothing() -> Line {
 }
 
 // The script, from nothing.
-fn run(script: &[u8], shows: bool) {
+fn run<W: Write>(out: &mut W, script: &[u8], shows: bool) -> io::Result<()> {
     let mut line = nothing();
     let mut from: usize = 0;
     let mut i: usize = 0;
     while i < script.len() {
         if script[i] == NEWLINE {
             if from <= i {
-                line = turn(line, &script[from..i], shows);
+                line = turn(out, line, &script[from..i], shows)?;
             }
             from = i + 1;
         }
         i += 1;
     }
+    Ok(())
 }
 
 fn times_of(script: &[u8]) -> u64 {
@@ -435,15 +462,19 @@ fn times_of(script: &[u8]) -> u64 {
     1
 }
 
-fn main() {
-    let mut input = io::large_buffer();
-    let n = io::read_full(0, &mut input);
-    if n <= 65536 {
-        let script = &input[0..n];
-        let mut left = times_of(script);
-        while 0 < left {
-            run(script, left == 1);
-            left -= 1;
-        }
+fn run_all<W: Write>(out: &mut W, script: &[u8]) -> io::Result<()> {
+    let mut left = times_of(script);
+    while 0 < left {
+        run(out, script, left == 1)?;
+        left -= 1;
     }
+    Ok(())
+}
+
+fn main(rt: HostRuntime) -> io::Result<()> {
+    let mut script = Vec::new(rt.alloc());
+    rt.stdin().take(LIMIT).read_to_end(&mut script)?;
+    let mut out = BufWriter::new(rt.alloc(), rt.stdout())?;
+    run_all(&mut out, &script)?;
+    out.flush()
 }

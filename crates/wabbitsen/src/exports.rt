@@ -1,4 +1,5 @@
-// What C and Rust call. Each function reads what it is lent, has the function of the same name do the work, and writes what it says.
+// What C and Rust call, by the static library `wabbitsen_c`. Each function reads what it is lent, has the function of the same name do the
+// work, and writes what it says.
 ghost use Rattle.transcripts.specs.Transcript.{Prints};
 ghost use Rattle.wabbitsen.specs.Exporting.{CompilesFor, OpensFor, AsksFor, FinishesFor, WithdrawsFor};
 
@@ -12,8 +13,7 @@ use table::cells::Table;
 use transcripts::transcript::transcript;
 
 // From the text of a path to its table.
-#[unsafe(no_mangle)]
-pub extern "C" fn wabbitsen_compile(text: &[u8], table: &mut Table) -> Reply
+pub fn wabbitsen_compile(text: &[u8], table: &mut Table) -> Reply
     ensures { CompilesFor text.now result table.new }
 {
     let compiled = compile(text);
@@ -22,8 +22,7 @@ pub extern "C" fn wabbitsen_compile(text: &[u8], table: &mut Table) -> Reply
 }
 
 // A session over a table is opened.
-#[unsafe(no_mangle)]
-pub extern "C" fn wabbitsen_open(record: &mut Record, list: &mut [Entry], table: &Table) -> Reply
+pub fn wabbitsen_open(record: &mut Record, list: &mut [Entry], table: &Table) -> Reply
     ensures { OpensFor «record».old list.old table.now result «record».new list.new }
 {
     let before = *record;
@@ -34,8 +33,7 @@ pub extern "C" fn wabbitsen_open(record: &mut Record, list: &mut [Entry], table:
 }
 
 // A terminal asks for the operation of a name.
-#[unsafe(no_mangle)]
-pub extern "C" fn wabbitsen_ask(
+pub fn wabbitsen_ask(
     record: &mut Record,
     list: &mut [Entry],
     terminal: Terminal,
@@ -51,12 +49,7 @@ pub extern "C" fn wabbitsen_ask(
 }
 
 // A terminal finishes what it runs.
-#[unsafe(no_mangle)]
-pub extern "C" fn wabbitsen_finish(
-    record: &mut Record,
-    list: &mut [Entry],
-    terminal: Terminal,
-) -> Reply
+pub fn wabbitsen_finish(record: &mut Record, list: &mut [Entry], terminal: Terminal) -> Reply
     ensures { FinishesFor «record».old list.old terminal result «record».new list.new }
 {
     let before = *record;
@@ -67,12 +60,7 @@ pub extern "C" fn wabbitsen_finish(
 }
 
 // A terminal withdraws what it asked for.
-#[unsafe(no_mangle)]
-pub extern "C" fn wabbitsen_withdraw(
-    record: &mut Record,
-    list: &mut [Entry],
-    terminal: Terminal,
-) -> Reply
+pub fn wabbitsen_withdraw(record: &mut Record, list: &mut [Entry], terminal: Terminal) -> Reply
     ensures { WithdrawsFor «record».old list.old terminal result «record».new list.new }
 {
     let before = *record;
@@ -83,8 +71,7 @@ pub extern "C" fn wabbitsen_withdraw(
 }
 
 // What `linerun` prints of an input, as far as the output goes; how many bytes that is.
-#[unsafe(no_mangle)]
-pub extern "C" fn wabbitsen_transcript(input: &[u8], out: &mut [u8]) -> usize
+pub fn wabbitsen_transcript(input: &[u8], out: &mut [u8]) -> usize
     ensures { Prints input.now out.old result out.new }
 {
     transcript(input, out)
