@@ -354,6 +354,7 @@ fn end(text: &[u8], e: Reading) -> Compiled
 }
 
 // From the text of a path to its table: the only way in.
+#[tactic(auto, using(crate::proofs::Wholes::long_compiles))]
 pub fn compile(text: &[u8]) -> Compiled
     ensures { Compiles text.now result }
 {

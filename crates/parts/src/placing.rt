@@ -81,6 +81,7 @@ fn with_position(t: Table, o: Operation) -> Placed
 }
 
 // A name placed behind all that was read, unless it passes a limit: 17 bytes, the 65th position, the 33rd distinct name.
+#[tactic(auto, using(crate::proofs::PlacePaths::placed_long, crate::proofs::PlacePaths::placed_full, crate::proofs::PlacePaths::placed_known, crate::proofs::PlacePaths::placed_one_too_many, crate::proofs::PlacePaths::placed_new))]
 pub fn place(t: Table, name: &[u8]) -> Placed
     ensures { result ≡ placed t name.now }
 {

@@ -1,15 +1,11 @@
 -- `readers::compile` meets its contract: each way through it gives what the machine's verdict comes to (Wholes), and that fulfils
 -- `Compiles` (CompiledTexts).
-use mathlib.Core.Path.{◌∙◌}
 use native.Mathlib.Omega.{arith}
 use Rattle.compiler.proofs.Arms.{but_path, not_path}
 use Rattle.compiler.proofs.CompiledTexts.{compiles}
 use Rattle.compiler.proofs.FactorPaths.{used_fits}
-use Rattle.compiler.proofs.Wholes.{compile_long, compile_not_path, starts_with_path}
+use Rattle.compiler.proofs.Wholes.{compile_not_path, starts_with_path}
 use Rattle.compiler.proofs.readers.compile.Goals as goal
-
-pub returns-then-text-gt4096 : goal.returns-then-text-gt4096
-returns-then-text-gt4096 c = compiles _ _ (c.refuse.ensures ∙ compile_long _ c.if-text-gt4096.true)
 
 pub slice_bounds-expression-count : goal.slice_bounds-expression-count
 slice_bounds-expression-count c = used_fits _ _ c.next-r.ensures
@@ -20,7 +16,7 @@ slice_bounds-expression-start c = used_fits _ _ c.next-r.ensures
 pub returns-in-Path : goal.returns-in-Path
 returns-in-Path c =
     compiles _ _
-    (starts_with_path _ (omega (arith, c.if-text-gt4096.false)) _
+    (starts_with_path _ (omega arith) _
     c.next-r.ensures
     c.in-Path.is _ _
     c.table_of_zeros.ensures c.expression-e.ensures _ c.end.ensures)
@@ -28,7 +24,7 @@ returns-in-Path c =
 pub returns-in_default : goal.returns-in_default
 returns-in_default c =
     compiles _ _
-    (compile_not_path _ (omega (arith, c.if-text-gt4096.false)) _
+    (compile_not_path _ (omega arith) _
     c.next-r.ensures (not_path c.next-r.result.token
     (but_path _ c.in_default.not-Path)) _
     (simp (c.refuse-in_default.ensures, c.refusal_of.ensures)))

@@ -25,9 +25,9 @@ returns-then-class_in-ne-LETTER c =
 
 pub returns-then-run-n : goal.returns-then-run-n
 returns-then-run-n c =
-    sym (part_word c.args.n.now (omega arith) (letter_first c.args.n.now _ c.class_in.ensures c.if-class_in-ne-LETTER.false) (λ e. c.if-run-n.true (c.run.ensures ∙ e)))
+    sym (part_word c.args.n.now (omega arith) (letter_first c.args.n.now _ c.class_in.ensures (omega arith)) (λ e. c.if-run-n.true (c.run.ensures ∙ e)))
 
 pub returns : goal.returns
 returns c =
-    let whole = whole_word c.args.n.now (omega arith) (letter_first c.args.n.now _ c.class_in.ensures c.if-class_in-ne-LETTER.false) (sym c.run.ensures ∙ c.if-run-n.false) in
+    let whole = whole_word c.args.n.now (omega arith) (letter_first c.args.n.now _ c.class_in.ensures (omega arith)) (sym c.run.ensures ∙ c.if-run-n.false) in
     c.is_name.ensures ∙ ap is_name c.word_token-token.ensures ∙ sym whole

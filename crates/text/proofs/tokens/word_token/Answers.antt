@@ -2,6 +2,8 @@
 -- What `same_name` ensures says the two first tests; how names are compared is not looked into.
 use mathlib.Core.Path.{sym, ◌∙◌}
 use borrow.Author.Tests.{lt-ltb, le-ltb}
+use native.Mathlib.Omega.{arith}
+use lib.ListN.{length}
 use Rattle.text.specs.Tokens.{word_token}
 use Rattle.text.proofs.tokens.word_token.Goals as goal
 
@@ -29,5 +31,5 @@ returns c =
     simp (
       sym c.same_name.ensures ∙ c.if-same_name.false,
       sym c.same_name-2.ensures ∙ c.if-same_name-2.false,
-      le-ltb _ _ c.if-n-gt16.false,
+      le-ltb 16 (length c.args.w.now) (omega arith),
     )

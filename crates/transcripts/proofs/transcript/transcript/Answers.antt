@@ -1,5 +1,6 @@
 -- `transcript::transcript` meets its contract: the input is too long, its path is refused, or it is accepted (Wholes.antt).
 use mathlib.Core.Path.{sym}
+use native.Mathlib.Omega.{arith}
 use lib.Seq.{length-take-le}
 use Rattle.text.proofs.Spans.{span_within}
 use Rattle.transcripts.proofs.Wholes.{table_sound, prints_accepted, prints_refused}
@@ -19,7 +20,7 @@ pub returns-in-Accepted : goal.returns-in-Accepted
 returns-in-Accepted c =
     prints_accepted _ _ c.bytes_before-end.ensures _
     c.compile-compiled.ensures
-    c.if-input-gt65536.false
+    (omega arith)
     c.in-Accepted.is _ c.behind.ensures
     c.run.ensures
 
@@ -27,5 +28,5 @@ pub returns-in-Refused : goal.returns-in-Refused
 returns-in-Refused c =
     prints_refused _ _ c.bytes_before-end.ensures _
     c.compile-compiled.ensures
-    c.if-input-gt65536.false _
+    (omega arith) _
     c.in-Refused.is c.put_refused_path.ensures
