@@ -1,4 +1,4 @@
-/* Paths and sorting lines for C and C++ on x86-64 Linux: link libwabbitsen.a, which `rt staticlib wabbitsen` writes to
+/* Paths and sorting lines for C and C++ on x86-64 Linux: link libwabbitsen.a, which `./library build` writes to
  * target/staticlib. "Document 01" is the specification: what each call does, and the numbers of refusal.
  *
  * Every function answers for all values of what it is given, damaged tables, records and lists included: nothing need be tested
