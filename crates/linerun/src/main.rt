@@ -2,7 +2,9 @@
 // `transcripts::transcript::transcript`'s, whose contract says the exact output; here are only the calls that read and write.
 #![tactic(auto)]
 
-ghost use Rattle.std.specs.Prelude.{◌≡◌, ◌≤◌, length, IfOk};
+ghost use Rattle.std.specs.Prelude.{◌≡◌, ◌≤◌, ◌<◌, length, take, IfOk, OnOk, IfSome};
+ghost use Rattle.std.specs.Io.KnownBytes.{Appends, Consumes, IsAtEnd};
+ghost use Rattle.linerun.specs.Running.{WritesTranscript};
 
 use standing::numbers::least;
 use std::io;
@@ -14,13 +16,15 @@ const PIECE: usize = 65536;
 
 // Reads until the buffer is full or the input ends; how many bytes that were.
 fn read_full<R: Read>(from: &mut R, buffer: &mut [u8]) -> io::Result<usize>
-    ensures { IfOk result (λ n. n ≤ length buffer.new) }
+    ensures within { IfOk result (λ n. n ≤ length buffer.new) }
+    ensures bytes { IfOk result (λ n. Consumes (R.remaining from.old) (R.remaining from.new) (take n buffer.new)) }
+    ensures end { IfOk result (λ n. n < length buffer.new → IsAtEnd (R.remaining from.new)) }
 {
     let mut done: usize = 0;
     while done < buffer.len() {
         let n = from.read(&mut buffer[done..])?;
         if n == 0 {
-            break;
+            return Ok(done);
         }
         done += n;
     }
@@ -28,7 +32,9 @@ fn read_full<R: Read>(from: &mut R, buffer: &mut [u8]) -> io::Result<usize>
 }
 
 // Writes all of the bytes, piece by piece; what is left when a write fails is not tried again.
-fn write_pieces<W: Write>(out: &mut W, bytes: &[u8]) -> io::Result<()> {
+fn write_pieces<W: Write>(out: &mut W, bytes: &[u8]) -> io::Result<()>
+    ensures { OnOk result (Appends (W.contents out.old) (W.contents out.new) bytes.now) }
+{
     let mut done: usize = 0;
     while done < bytes.len() {
         let end = done + least(PIECE, bytes.len() - done);
@@ -52,10 +58,17 @@ fn output_buffer() -> [u8; 720914]
     [0; 720914]
 }
 
-fn main(rt: HostRuntime) -> io::Result<()> {
+// What is written is the transcript of all that the reader has left, where its bytes are known.
+fn run<R: Read, W: Write>(from: &mut R, out: &mut W) -> io::Result<()>
+    ensures { OnOk result (IfSome (R.remaining from.old) (λ input. WritesTranscript input (W.contents out.old) (W.contents out.new))) }
+{
     let mut input = input_buffer();
-    let n = read_full(&mut rt.stdin(), &mut input)?;
+    let n = read_full(from, &mut input)?;
     let mut output = output_buffer();
     let said = transcript(&input[..n], &mut output);
-    write_pieces(&mut rt.stdout(), &output[..said])
+    write_pieces(out, &output[..said])
+}
+
+fn main(rt: HostRuntime) -> io::Result<()> {
+    run(&mut rt.stdin(), &mut rt.stdout())
 }
