@@ -1,3 +1,2 @@
--- What is read into the buffer and written from it, and that a whole input's transcript is written.
-mod Pieces
+-- A whole input's transcript is written.
 mod Whole

@@ -2,10 +2,11 @@
 // `transcripts::transcript::transcript`'s, whose contract says the exact output; here are only the calls that read and write.
 #![tactic(auto)]
 
-ghost use Rattle.std.specs.Prelude.{◌≡◌, ◌≤◌, ◌<◌, length, take, IfOk, OnOk, IfSome};
-ghost use Rattle.std.specs.Io.KnownBytes.{Appends, Consumes, IsAtEnd};
+ghost use Rattle.std.specs.Prelude.{◌≡◌, length, OnOk, IfSome};
+ghost use Rattle.std.specs.Io.KnownBytes.{Appends};
 ghost use Rattle.linerun.specs.Running.{WritesTranscript};
 
+use inputs::read_full;
 use standing::numbers::least;
 use std::io;
 use std::io::{Read, Write};
@@ -13,23 +14,6 @@ use transcripts::transcript::transcript;
 
 // One write takes at most so much.
 const PIECE: usize = 65536;
-
-// Reads until the buffer is full or the input ends; how many bytes that were.
-fn read_full<R: Read>(from: &mut R, buffer: &mut [u8]) -> io::Result<usize>
-    ensures within { IfOk result (λ n. n ≤ length buffer.new) }
-    ensures bytes { IfOk result (λ n. Consumes (R.remaining from.old) (R.remaining from.new) (take n buffer.new)) }
-    ensures end { IfOk result (λ n. n < length buffer.new → IsAtEnd (R.remaining from.new)) }
-{
-    let mut done: usize = 0;
-    while done < buffer.len() {
-        let n = from.read(&mut buffer[done..])?;
-        if n == 0 {
-            return Ok(done);
-        }
-        done += n;
-    }
-    Ok(done)
-}
 
 // Writes all of the bytes, piece by piece; what is left when a write fails is not tried again.
 fn write_pieces<W: Write>(out: &mut W, bytes: &[u8]) -> io::Result<()>

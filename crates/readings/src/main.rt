@@ -4,8 +4,9 @@
 
 use compiler::readers::compile;
 use compiler::replies::Reply;
+use inputs::read_full;
 use std::io;
-use std::io::{BufWriter, Read, Write};
+use std::io::Write;
 use table::cells::Table;
 use table::numbers::Operation;
 
@@ -13,7 +14,7 @@ use table::numbers::Operation;
 const TILDE: u8 = 126;
 
 // No more of an input is read.
-const LIMIT: u64 = 65536;
+const LIMIT: usize = 65536;
 
 fn print<W: Write>(out: &mut W, s: &[u8]) -> io::Result<()> {
     out.write_all(s)
@@ -148,9 +149,7 @@ fn show_all<W: Write>(out: &mut W, input: &[u8]) -> io::Result<()> {
 }
 
 fn main(rt: HostRuntime) -> io::Result<()> {
-    let mut input = Vec::new(rt.alloc());
-    rt.stdin().take(LIMIT).read_to_end(&mut input)?;
-    let mut out = BufWriter::new(rt.alloc(), rt.stdout())?;
-    show_all(&mut out, &input)?;
-    out.flush()
+    let mut input = [0; LIMIT];
+    let n = read_full(&mut rt.stdin(), &mut input)?;
+    show_all(&mut rt.stdout(), &input[..n])
 }

@@ -7,12 +7,13 @@ ghost use Rattle.std.specs.Prelude.{◌≤◌, length};
 
 use compiler::readers::compile;
 use compiler::replies::Reply;
+use inputs::read_full;
 use lines::held::{Line, ask_line, finish_line, open_line, withdraw_line};
 use standing::entries::{Entry, blank_entry};
 use standing::numbers::Terminal;
 use standing::records::{Session, State};
 use std::io;
-use std::io::{BufWriter, Read, Write};
+use std::io::Write;
 use steps::replies::{AskReply, FinishReply, Finished, Next, OpenReply, WithdrawReply};
 use table::cells::{Table, table_of_zeros};
 use table::numbers::Operation;
@@ -20,7 +21,7 @@ use table::numbers::Operation;
 const NEWLINE: u8 = 10;
 
 // No more of a script is read.
-const LIMIT: u64 = 65536;
+const LIMIT: usize = 65536;
 
 // A number of a script's line, and where it ends.
 #[derive(Clone, Copy)]
@@ -472,9 +473,7 @@ fn run_all<W: Write>(out: &mut W, script: &[u8]) -> io::Result<()> {
 }
 
 fn main(rt: HostRuntime) -> io::Result<()> {
-    let mut script = Vec::new(rt.alloc());
-    rt.stdin().take(LIMIT).read_to_end(&mut script)?;
-    let mut out = BufWriter::new(rt.alloc(), rt.stdout())?;
-    run_all(&mut out, &script)?;
-    out.flush()
+    let mut script = [0; LIMIT];
+    let n = read_full(&mut rt.stdin(), &mut script)?;
+    run_all(&mut rt.stdout(), &script[..n])
 }

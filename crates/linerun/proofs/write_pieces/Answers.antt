@@ -1,7 +1,7 @@
 use Rattle.std.proofs.Common.{◌+◌, rules, arith, subst, refl}
 use Rattle.std.specs.Io.KnownBytes.{Appends}
 use Rattle.std.proofs.KnownBytes.{Appends-trans}
-use Rattle.linerun.proofs.Pieces.{front_more}
+use Rattle.inputs.proofs.Pieces.{front_more}
 use Rattle.linerun.proofs.write_pieces.Goals as goal
 
 pub loop-done-preserved : goal.loop-done-preserved

@@ -3,8 +3,8 @@ use Rattle.std.proofs.lemmas.Slice.{take-put_mid_below}
 use Rattle.std.specs.Io.KnownBytes.{Consumes}
 use Rattle.std.proofs.KnownBytes.{Consumes-trans}
 use borrow.Rule.Slice.PartMut.{put_mid}
-use Rattle.linerun.proofs.Pieces.{front_more, part_of_put}
-use Rattle.linerun.proofs.read_full.Goals as goal
+use Rattle.inputs.proofs.Pieces.{front_more, part_of_put}
+use Rattle.inputs.proofs.read_full.Goals as goal
 
 pub loop-done-preserved : goal.loop-done-preserved
 loop-done-preserved g c =
