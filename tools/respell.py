@@ -34,6 +34,8 @@ TOLD = {
     "two-read": "two_read_told",
     "withdraw-found": "withdraw_found_told",
 }
+# Names of a proof's own, below a `where`.
+LOCAL = ["builtAsk", "builtEntry", "builtPick", "builtExamined", "some-line"]
 # Names that two crates have, for two things, and no file has both.
 APART = ["nothing_left", "ReadsAs", "ask_line", "finish_line", "withdraw_line", "is_name", "one_more", "two_fields"]
 
@@ -42,7 +44,7 @@ def sources():
     out = []
     for kind in ("specs", "proofs"):
         out += glob.glob(f"crates/*/{kind}/**/*.antt", recursive=True)
-    return sorted(p for p in out if not re.search(r"/Proof(\.antt|/)|/(Answers|Invariants)\.antt$", p) or p.endswith("session/proofs/Answers.antt"))
+    return sorted(p for p in out if not re.search(r"/proofs/.*(/Proof(\.antt|/)|[^/]/(Answers|Invariants)\.antt$)", p) or re.search(r"/proofs/Answers\.antt$", p))
 
 
 def respelled(name):
@@ -94,7 +96,7 @@ def renames(names):
 
 def main():
     tops, fields = declared()
-    top, field = renames(tops), renames(fields)
+    top, field = renames(list(tops) + LOCAL), renames(fields)
     after = {}
     clash = False
     for n in list(tops):

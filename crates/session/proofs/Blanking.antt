@@ -39,7 +39,7 @@ no_more_than (suc n) (e ∷ l) =
     ap (λ (k : ℕ). blanked k (e ∷ l)) (suc-min-suc n (length l)) ∙ ap (λ (r : List Entry). blank_entry ∷ r) (no_more_than n l)
 
 pub ends_as : (n i : ℕ) (l zs : List Entry) → i ≤ min n (length l) → min n (length l) ≤ i → zs ≡ blanked i l → zs ≡ blanked n l
-ends_as n i l zs below above so = so ∙ ap (λ (k : ℕ). blanked k l) at-end ∙ no_more_than n l
+ends_as n i l zs below above so = so ∙ ap (λ (k : ℕ). blanked k l) at_end ∙ no_more_than n l
   where
-    at-end : i ≡ min n (length l)
-    at-end = omega (arith, below, above)
+    at_end : i ≡ min n (length l)
+    at_end = omega (arith, below, above)

@@ -37,8 +37,8 @@ use Rattle.steps.specs.declared.replies.Grant.{Grant}
 use Rattle.steps.specs.declared.replies.Next.TheVariants.{Granted as Grants, Nobody as NoNext}
 use Rattle.steps.specs.declared.replies.FinishReply.TheVariants.{Finished}
 use Rattle.steps.specs.declared.replies.WithdrawReply.TheVariants.{Withdrawn}
-use Rattle.steps.specs.Steps.{is_free, granting, counting, freed, ask_step as builtAsk, picked as builtPick}
-use Rattle.steps.specs.Steps.{examined_to as builtExamined, finish_step, entry_of as builtEntry, withdraw_step}
+use Rattle.steps.specs.Steps.{is_free, granting, counting, freed, ask_step as built_ask, picked as built_pick}
+use Rattle.steps.specs.Steps.{examined_to as built_examined, finish_step, entry_of as built_entry, withdraw_step}
 use Rattle.steps.specs.Calling.{entry_for}
 use Rattle.steps.specs.Calling.Serves.{does}
 use Rattle.steps.specs.Refusals.{Row, None}
@@ -120,7 +120,7 @@ module _ (s : Session) (l : List Entry) (i : Line) (a : Alike s.table s l i) whe
     free_set (some v) is its = absurd (false≢true is)
 
     ask_granted : (is_free s.state && meets_set s e.operation.0) ≡ true → Answered t s l i (ask u n)
-    unfolding step ask_step builtAsk
+    unfolding step ask_step built_ask
     ask_granted test =
         let (is_free, permitted) = (and-eq-true_iff (free i.running) _).0 (ideal_test true test) in
         let by : Leaves s l (ask u n) Granted (granting s e s.waiting) l = does none-applies (rw test) in
@@ -137,7 +137,7 @@ module _ (s : Session) (l : List Entry) (i : Line) (a : Alike s.table s l i) whe
         }
 
     ask_delayed : (is_free s.state && meets_set s e.operation.0) ≡ false → Answered t s l i (ask u n)
-    unfolding step ask_step builtAsk
+    unfolding step ask_step built_ask
     ask_delayed test =
         let place = place_of (in_use s l) e in
         let later = counting s (suc s.waiting) in
@@ -183,8 +183,8 @@ module _ (s : Session) (l : List Entry) (i : Line) (a : Alike s.table s l i) whe
         ap (union_of t.rows) shared ∙ sym (set_moves_on t g k) ∙ ap (set_at t) (sym is)
 
     -- both lines pick the same entry
-    picks_same : picked (table_permits t) (known_in t) i ≡ found_heard (entry_heard t) (builtPick (freed s) l)
-    unfolding picked builtPick
+    picks_same : picked (table_permits t) (known_in t) i ≡ found_heard (entry_heard t) (built_pick (freed s) l)
+    unfolding picked built_pick
     picks_same =
         rw (← a.same_entries)
         (seek_heard (entry_heard t) (λ e. meets_set (freed s) e.operation.0) (λ e. table_permits t (i.history ++ e.name ∷ [])) (in_use s l)
@@ -193,14 +193,14 @@ module _ (s : Session) (l : List Entry) (i : Line) (a : Alike s.table s l i) whe
     abbrev Picks : Found → Type 0
     Picks = Finds (λ e. meets_set (freed s) e.operation.0) (in_use s l)
 
-    examined_same : (f : Found) → examined_to (table_permits t) (known_in t) i (found_heard (entry_heard t) f) ≡ builtExamined (freed s) l f
+    examined_same : (f : Found) → examined_to (table_permits t) (known_in t) i (found_heard (entry_heard t) f) ≡ built_examined (freed s) l f
     examined_same Nobody = as_many_heard
     examined_same (At w) = refl
 
-    handed_alike : (f : Found) → builtPick (freed s) l ≡ f → Picks f → Answered t s l i (finish u)
+    handed_alike : (f : Found) → built_pick (freed s) l ≡ f → Picks f → Answered t s l i (finish u)
     unfolding step finish_step
     handed_alike Nobody is finds =
-        let reply = Finished (record { examined = builtExamined (freed s) l Nobody; next = NoNext }) in
+        let reply = Finished (record { examined = built_examined (freed s) l Nobody; next = NoNext }) in
         let by : Leaves s l (finish u) reply (freed s) l = does none-applies (rw is) in
         let after : Line = record { history = i.history; running = none; waiting = i.waiting } in
         record {
@@ -216,7 +216,7 @@ module _ (s : Session) (l : List Entry) (i : Line) (a : Alike s.table s l i) whe
     handed_alike (At w) is finds =
         let e = w.entry in
         let grant : Grant = record { terminal = e.terminal; operation = e.operation } in
-        let reply = Finished (record { examined = builtExamined (freed s) l (At w); next = Grants grant }) in
+        let reply = Finished (record { examined = built_examined (freed s) l (At w); next = Grants grant }) in
         let later = granting (freed s) e (s.waiting - 1) in
         let left = taken_out s.waiting w.place l in
         let by : Leaves s l (finish u) reply later left = does none-applies (rw is) in
@@ -240,13 +240,13 @@ module _ (s : Session) (l : List Entry) (i : Line) (a : Alike s.table s l i) whe
         }
 
     finish_alike : Answered t s l i (finish u)
-    unfolding builtPick
-    finish_alike = handed_alike (builtPick (freed s) l) refl (seek_finds _ (in_use s l))
+    unfolding built_pick
+    finish_alike = handed_alike (built_pick (freed s) l) refl (seek_finds _ (in_use s l))
 
   -- a withdrawal
   module _ (u : ℕ) (none-applies : None (Row s l (withdraw u))) (goes_on : refusal (table_permits t) (known_in t) i (withdraw u) ≡ none) where
-    taken_back_alike : (f : Found) → builtEntry s l u ≡ f → Finds (λ e. eqb e.terminal.0 u) (in_use s l) f → Answered t s l i (withdraw u)
-    unfolding step withdraw_step builtEntry
+    taken_back_alike : (f : Found) → built_entry s l u ≡ f → Finds (λ e. eqb e.terminal.0 u) (in_use s l) f → Answered t s l i (withdraw u)
+    unfolding step withdraw_step built_entry
     taken_back_alike Nobody is finds =
         record {
           reply = Withdrawn 0;
@@ -277,8 +277,8 @@ module _ (s : Session) (l : List Entry) (i : Line) (a : Alike s.table s l i) whe
         }
 
     withdraw_alike : Answered t s l i (withdraw u)
-    unfolding builtEntry
-    withdraw_alike = taken_back_alike (builtEntry s l u) refl (seek_finds _ (in_use s l))
+    unfolding built_entry
+    withdraw_alike = taken_back_alike (built_entry s l u) refl (seek_finds _ (in_use s l))
 
   -- a call whose tests came to this
   verdict_alike : (c : Call) (v : Option ℕ) → refusal (table_permits t) (known_in t) i c ≡ v → Verdict s l i a c v → Answered t s l i c

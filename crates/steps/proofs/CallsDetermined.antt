@@ -14,7 +14,7 @@ use Rattle.steps.specs.declared.replies.Next.{Next}
 use Rattle.steps.specs.declared.replies.Next.TheVariants.{Granted as Grants, Nobody}
 use Rattle.steps.specs.declared.replies.FinishReply.TheVariants.{Finished, Refused as FinishRefused}
 use Rattle.steps.specs.declared.replies.WithdrawReply.TheVariants.{Withdrawn, Refused as WithdrawRefused}
-use Rattle.steps.specs.Answers.{Answer, openAnswer, askAnswer, nextAnswer, finishAnswer, withdrawAnswer}
+use Rattle.steps.specs.Answers.{Answer, open_answer, ask_answer, next_answer, finish_answer, withdraw_answer}
 use Rattle.steps.specs.Answers.Answer.{refused}
 use Rattle.steps.specs.Calling.{Serves}
 use Rattle.steps.specs.Calling.Serves.{refuses, does}
@@ -41,7 +41,7 @@ ask_answer_injective (AskRefused m) Granted e = cc
 ask_answer_injective (AskRefused m) (Delayed n) e = cc
 ask_answer_injective (AskRefused m) (AskRefused k) e = cc
 
-next_injective : (n k : ℕ) (a b : Next) → nextAnswer n a ≡ nextAnswer k b → (n ≡ k) × (a ≡ b)
+next_injective : (n k : ℕ) (a b : Next) → next_answer n a ≡ next_answer k b → (n ≡ k) × (a ≡ b)
 next_injective n k (Grants g) (Grants h) e =
     let terminals : g.terminal.0 ≡ h.terminal.0 = cc in
     let operations : g.operation.0 ≡ h.operation.0 = cc in
@@ -50,7 +50,7 @@ next_injective n k (Grants g) Nobody e = (cc, cc)
 next_injective n k Nobody (Grants h) e = (cc, cc)
 next_injective n k Nobody Nobody e = (cc, refl)
 
-next_not_refused : (n m : ℕ) (a : Next) → nextAnswer n a ≢ refused m
+next_not_refused : (n m : ℕ) (a : Next) → next_answer n a ≢ refused m
 next_not_refused n m (Grants g) e = let never : ◌≡◌ {A = ℕ} 0 1 = cc in omega arith
 next_not_refused n m Nobody e = let never : ◌≡◌ {A = ℕ} 0 1 = cc in omega arith
 
@@ -96,13 +96,13 @@ determined answer injective {r₁ = r₁} {r₂ = r₂} a b =
     )
 
 pub open_determined : OpenDetermined
-open_determined s s₁ s₂ l l₁ l₂ t r₁ r₂ a b = determined openAnswer open_answer_injective a b
+open_determined s s₁ s₂ l l₁ l₂ t r₁ r₂ a b = determined open_answer open_answer_injective a b
 
 pub ask_determined : AskDetermined
-ask_determined s s₁ s₂ l l₁ l₂ t n r₁ r₂ a b = determined askAnswer ask_answer_injective a b
+ask_determined s s₁ s₂ l l₁ l₂ t n r₁ r₂ a b = determined ask_answer ask_answer_injective a b
 
 pub finish_determined : FinishDetermined
-finish_determined s s₁ s₂ l l₁ l₂ t r₁ r₂ a b = determined finishAnswer finish_answer_injective a b
+finish_determined s s₁ s₂ l l₁ l₂ t r₁ r₂ a b = determined finish_answer finish_answer_injective a b
 
 pub withdraw_determined : WithdrawDetermined
-withdraw_determined s s₁ s₂ l l₁ l₂ t r₁ r₂ a b = determined withdrawAnswer withdraw_answer_injective a b
+withdraw_determined s s₁ s₂ l l₁ l₂ t r₁ r₂ a b = determined withdraw_answer withdraw_answer_injective a b

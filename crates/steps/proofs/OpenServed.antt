@@ -13,7 +13,7 @@ use Rattle.table.specs.declared.cells.Table.{Table}
 use Rattle.standing.specs.declared.entries.Entry.{Entry}
 use Rattle.standing.specs.declared.records.Session.{Session}
 use Rattle.steps.specs.declared.outcomes.Opened.{Opened}
-use Rattle.steps.specs.Answers.{openAnswer}
+use Rattle.steps.specs.Answers.{open_answer}
 use Rattle.standing.specs.Lists.{blanked}
 use Rattle.steps.specs.Steps.{Outcome, open_step}
 use Rattle.steps.specs.Refusals.{OpenRow}
@@ -29,7 +29,7 @@ open_rows_left t l (unsound_table h) = (omega arith, λ long. omega arith, λ lo
 
 module _ (s : Session) (l : List Entry) (t : Table) where
   abbrev outcome : Opened → Outcome
-  outcome v = record { answer = openAnswer v.reply; session = v.session; list = blanked v.blanks l }
+  outcome v = record { answer = open_answer v.reply; session = v.session; list = blanked v.blanks l }
 
   abbrev Good : Opened → Type 0
   Good v = Serves (OpenRow t l) s l (open_step t l) (outcome v)

@@ -25,23 +25,23 @@ pub data Answer : Type 0 where
   refused : (number : ℕ) → Answer
 
 -- the cases of each call's reply
-abbrev pub openAnswer : OpenReply → Answer
-openAnswer Opened = opened
-openAnswer (OpenRefused m) = refused m
+abbrev pub open_answer : OpenReply → Answer
+open_answer Opened = opened
+open_answer (OpenRefused m) = refused m
 
-abbrev pub askAnswer : AskReply → Answer
-askAnswer Granted = granted
-askAnswer (Delayed n) = delayed n
-askAnswer (AskRefused m) = refused m
+abbrev pub ask_answer : AskReply → Answer
+ask_answer Granted = granted
+ask_answer (Delayed n) = delayed n
+ask_answer (AskRefused m) = refused m
 
-abbrev pub nextAnswer : ℕ → Next → Answer
-nextAnswer n (Grants g) = handed n g.terminal.0 g.operation.0
-nextAnswer n Nobody = finished n
+abbrev pub next_answer : ℕ → Next → Answer
+next_answer n (Grants g) = handed n g.terminal.0 g.operation.0
+next_answer n Nobody = finished n
 
-abbrev pub finishAnswer : FinishReply → Answer
-finishAnswer (Finished f) = nextAnswer f.examined f.next
-finishAnswer (FinishRefused m) = refused m
+abbrev pub finish_answer : FinishReply → Answer
+finish_answer (Finished f) = next_answer f.examined f.next
+finish_answer (FinishRefused m) = refused m
 
-abbrev pub withdrawAnswer : WithdrawReply → Answer
-withdrawAnswer (Withdrawn p) = withdrawn p
-withdrawAnswer (WithdrawRefused m) = refused m
+abbrev pub withdraw_answer : WithdrawReply → Answer
+withdraw_answer (Withdrawn p) = withdrawn p
+withdraw_answer (WithdrawRefused m) = refused m

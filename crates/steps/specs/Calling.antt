@@ -12,7 +12,7 @@ use Rattle.steps.specs.declared.replies.OpenReply.{OpenReply}
 use Rattle.steps.specs.declared.replies.AskReply.{AskReply}
 use Rattle.steps.specs.declared.replies.FinishReply.{FinishReply}
 use Rattle.steps.specs.declared.replies.WithdrawReply.{WithdrawReply}
-use Rattle.steps.specs.Answers.{openAnswer, askAnswer, finishAnswer, withdrawAnswer}
+use Rattle.steps.specs.Answers.{open_answer, ask_answer, finish_answer, withdraw_answer}
 use Rattle.steps.specs.Answers.Answer.{refused}
 use Rattle.steps.specs.Refusals.{Row, OpenRow, First, None}
 use Rattle.steps.specs.Steps.{Outcome, open_step, ask_step, finish_step, withdraw_step}
@@ -32,16 +32,16 @@ entry_for s t n = record { terminal = t; operation = record { 0 = number_of (nam
 
 abbrev pub Opens : Session → List Entry → Table → OpenReply → Session → List Entry → Type 0
 Opens s l t r s' l' =
-    Serves (OpenRow t l) s l (open_step t l) (record { answer = openAnswer r; session = s'; list = l' })
+    Serves (OpenRow t l) s l (open_step t l) (record { answer = open_answer r; session = s'; list = l' })
 
 abbrev pub Asks : Session → List Entry → Terminal → Name → AskReply → Session → List Entry → Type 0
 Asks s l t n r s' l' =
-    Serves (Row s l (ask t.0 n)) s l (ask_step s l (entry_for s t n)) (record { answer = askAnswer r; session = s'; list = l' })
+    Serves (Row s l (ask t.0 n)) s l (ask_step s l (entry_for s t n)) (record { answer = ask_answer r; session = s'; list = l' })
 
 abbrev pub Finishes : Session → List Entry → Terminal → FinishReply → Session → List Entry → Type 0
 Finishes s l t r s' l' =
-    Serves (Row s l (finish t.0)) s l (finish_step s l) (record { answer = finishAnswer r; session = s'; list = l' })
+    Serves (Row s l (finish t.0)) s l (finish_step s l) (record { answer = finish_answer r; session = s'; list = l' })
 
 abbrev pub Withdraws : Session → List Entry → Terminal → WithdrawReply → Session → List Entry → Type 0
 Withdraws s l t r s' l' =
-    Serves (Row s l (withdraw t.0)) s l (withdraw_step s l t.0) (record { answer = withdrawAnswer r; session = s'; list = l' })
+    Serves (Row s l (withdraw t.0)) s l (withdraw_step s l t.0) (record { answer = withdraw_answer r; session = s'; list = l' })

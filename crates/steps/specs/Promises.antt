@@ -13,7 +13,7 @@ use Rattle.steps.specs.declared.replies.OpenReply.{OpenReply}
 use Rattle.steps.specs.declared.replies.AskReply.{AskReply}
 use Rattle.steps.specs.declared.replies.FinishReply.{FinishReply}
 use Rattle.steps.specs.declared.replies.WithdrawReply.{WithdrawReply}
-use Rattle.steps.specs.Answers.{openAnswer, askAnswer, finishAnswer, withdrawAnswer}
+use Rattle.steps.specs.Answers.{open_answer, ask_answer, finish_answer, withdraw_answer}
 use Rattle.steps.specs.Answers.Answer.{opened}
 use Rattle.standing.specs.Soundness.{Sound, entry_in}
 use Rattle.steps.specs.Refusals.{Runs, Waits}
@@ -94,7 +94,7 @@ OpenKeeps =
 
 abbrev pub OpenedSound : Type 0
 OpenedSound =
-    (s s' : Session) (l l' : List Entry) (t : Table) (r : OpenReply) → Opens s l t r s' l' → openAnswer r ≡ opened → Sound s' l'
+    (s s' : Session) (l l' : List Entry) (t : Table) (r : OpenReply) → Opens s l t r s' l' → open_answer r ≡ opened → Sound s' l'
 
 abbrev pub AskKeeps : Type 0
 AskKeeps =
@@ -134,7 +134,7 @@ BlankBehind s l = (i : ℕ) → s.waiting ≤ i → i < 64 → entry_in l i ≡ 
 
 abbrev pub OpenedBlank : Type 0
 OpenedBlank =
-    (s s' : Session) (l l' : List Entry) (t : Table) (r : OpenReply) → Opens s l t r s' l' → openAnswer r ≡ opened
+    (s s' : Session) (l l' : List Entry) (t : Table) (r : OpenReply) → Opens s l t r s' l' → open_answer r ≡ opened
     → BlankBehind s' l'
 
 abbrev pub AskKeepsBlank : Type 0
@@ -154,16 +154,16 @@ WithdrawKeepsBlank =
 
 -- the paper's number and values tell the cases of a reply apart
 abbrev pub OpenAnswerInjective : Type 0
-OpenAnswerInjective = (a b : OpenReply) → openAnswer a ≡ openAnswer b → a ≡ b
+OpenAnswerInjective = (a b : OpenReply) → open_answer a ≡ open_answer b → a ≡ b
 
 abbrev pub AskAnswerInjective : Type 0
-AskAnswerInjective = (a b : AskReply) → askAnswer a ≡ askAnswer b → a ≡ b
+AskAnswerInjective = (a b : AskReply) → ask_answer a ≡ ask_answer b → a ≡ b
 
 abbrev pub FinishAnswerInjective : Type 0
-FinishAnswerInjective = (a b : FinishReply) → finishAnswer a ≡ finishAnswer b → a ≡ b
+FinishAnswerInjective = (a b : FinishReply) → finish_answer a ≡ finish_answer b → a ≡ b
 
 abbrev pub WithdrawAnswerInjective : Type 0
-WithdrawAnswerInjective = (a b : WithdrawReply) → withdrawAnswer a ≡ withdrawAnswer b → a ≡ b
+WithdrawAnswerInjective = (a b : WithdrawReply) → withdraw_answer a ≡ withdraw_answer b → a ≡ b
 
 -- exactly one outcome for each record, list and call
 abbrev pub OpenDetermined : Type 0

@@ -25,7 +25,7 @@ use Rattle.steps.specs.declared.outcomes.Opened.{Opened}
 use Rattle.steps.specs.declared.outcomes.Asked.{Asked}
 use Rattle.steps.specs.declared.outcomes.Handed.{Handed}
 use Rattle.steps.specs.declared.outcomes.Withdrawn.{Withdrawn}
-use Rattle.steps.specs.Answers.{askAnswer, finishAnswer, withdrawAnswer}
+use Rattle.steps.specs.Answers.{ask_answer, finish_answer, withdraw_answer}
 use Rattle.standing.specs.Lists.{blank_entry, taken_out}
 use Rattle.standing.specs.Soundness.{RecordSound, meets_set}
 use Rattle.steps.specs.Steps.{Outcome, is_free, opening, granting, counting, freed}
@@ -145,10 +145,10 @@ WithdrawnBy s n f t r = Decided (RecordSound s) (λ sound. withdraw_value sound 
 
 -- what a call by value leaves of a list
 abbrev pub ask_outcome : List Entry → Asked → Outcome
-ask_outcome l v = record { answer = askAnswer v.reply; session = v.session; list = set l v.place v.entry }
+ask_outcome l v = record { answer = ask_answer v.reply; session = v.session; list = set l v.place v.entry }
 
 abbrev pub finish_outcome : List Entry → Handed → Outcome
-finish_outcome l v = record { answer = finishAnswer v.reply; session = v.session; list = taken_out v.used v.place l }
+finish_outcome l v = record { answer = finish_answer v.reply; session = v.session; list = taken_out v.used v.place l }
 
 abbrev pub withdraw_outcome : List Entry → Withdrawn → Outcome
-withdraw_outcome l v = record { answer = withdrawAnswer v.reply; session = v.session; list = taken_out v.used v.place l }
+withdraw_outcome l v = record { answer = withdraw_answer v.reply; session = v.session; list = taken_out v.used v.place l }

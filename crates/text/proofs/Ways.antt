@@ -4,12 +4,13 @@ use mathlib.Core.Path.{◌≡◌}
 use mathlib.Core.List.{List, [], ◌∷◌}
 use Prim.Native.Nat.{ℕ, ◌+◌, ◌<◌}
 use native.Mathlib.Omega.{arith}
-use borrow.Author.Tests.{eq-eqb, ne_eqb}
+use mathlib.Core.Bool.{false}
+use borrow.Author.Tests.{eq-eqb, ne_eqb, lt-ltb}
 use lib.ListN.{length, take, drop, get_or}
 use Rattle.text.specs.Classes.{letter, class_of}
-use Rattle.text.specs.Tokens.{span, blank_byte, name_byte, word_token, sign_token, token_from, next_token}
+use Rattle.text.specs.Tokens.{span, blank_byte, name_byte, path_word, end_word, same_name, word_token, sign_token, token_from, next_token}
 use Rattle.text.specs.declared.tokens.Token.{Token}
-use Rattle.text.specs.declared.tokens.Token.TheVariants.{TextEnd}
+use Rattle.text.specs.declared.tokens.Token.TheVariants.{TextEnd, Long}
 use Rattle.text.specs.declared.tokens.Read.{Read}
 
 module _ (s : List ℕ) (k : ℕ) (blanks : k ≡ span blank_byte s) where
@@ -38,3 +39,8 @@ module _ (s : List ℕ) (k : ℕ) (blanks : k ≡ span blank_byte s) where
   way_sign [] c t e h class no-letter sign = absurd (omega arith)
   way_sign (b ∷ r) c t e h class no-letter sign =
       rw (← (behind_blanks (b ∷ r) e), ← class, ne_eqb c letter no-letter, sign)
+
+-- a run of letters and digits that is no keyword, and above 16 bytes
+pub word_too_long : (w : List ℕ) → same_name w path_word ≡ false → same_name w end_word ≡ false → 16 < length w → Long ≡ word_token w
+unfolding word_token
+word_too_long w no_path no_end long = simp (no_path, no_end, lt-ltb 16 (length w) long)

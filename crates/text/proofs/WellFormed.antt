@@ -73,6 +73,10 @@ no_letter_first (b ∷ r) some other = go (blank_byte b) refl
         (eqb-false (class_of b) letter other) refl in
         rw (← sign, sign_no_name (class_of b))
 
+-- the same, of the class that was looked up
+pub not_a_letter_first : (n : List ℕ) (r : ℕ) → 0 < length n → r ≡ class_of (get_or n 0 0) → (r ≡ letter → ⊥) → false ≡ well_formed n
+not_a_letter_first n r some is other = sym (no_letter_first n some (rw (← is) (ne_eqb r letter other)))
+
 pub nothing_there : (n : List ℕ) → length n ≡ 0 → well_formed n ≡ false
 unfolding well_formed next_token token_from span
 nothing_there [] none = refl

@@ -101,6 +101,7 @@ pub fn same_name(m: &[u8], n: &[u8]) -> bool
 }
 
 // What a run of letters and digits is: a keyword, a name, or too long.
+#[tactic(auto, using(crate::proofs::Ways::word_too_long))]
 fn word_token(w: &[u8]) -> Token
     ensures { result ≡ word_token w.now }
 {
@@ -191,6 +192,7 @@ fn is_name(token: Token) -> bool
 }
 
 // The bytes are a name and nothing else: a letter, and letters and digits to the end, that the reader would take for a name.
+#[tactic(auto, using(crate::proofs::WellFormed::not_a_letter_first))]
 pub fn well_formed(n: &[u8]) -> bool
     ensures { result ≡ well_formed n.now }
 {

@@ -26,7 +26,7 @@ use Rattle.steps.specs.declared.replies.FinishReply.{FinishReply}
 use Rattle.steps.specs.declared.replies.FinishReply.TheVariants.{Finished, Refused as FinishRefused}
 use Rattle.steps.specs.declared.replies.WithdrawReply.{WithdrawReply}
 use Rattle.steps.specs.declared.replies.WithdrawReply.TheVariants.{Withdrawn, Refused as WithdrawRefused}
-use Rattle.steps.specs.Answers.{Answer, askAnswer, nextAnswer, finishAnswer, withdrawAnswer}
+use Rattle.steps.specs.Answers.{Answer, ask_answer, next_answer, finish_answer, withdraw_answer}
 use Rattle.steps.specs.Answers.Answer.{opened, granted, delayed, finished, handed, withdrawn, refused}
 use Rattle.steps.specs.Calling.{Serves, entry_for}
 use Rattle.steps.specs.Calling.Serves.{refuses, does}
@@ -114,13 +114,13 @@ word_and_number w n h =
     let digits = two_digits n h in
     omega (arith, all, digits)
 
-ask_long : (r : AskReply) → Small (askAnswer r) → length (ask_line r) ≤ 88
+ask_long : (r : AskReply) → Small (ask_answer r) → length (ask_line r) ≤ 88
 unfolding line_of ask_line
 ask_long Granted h = omega arith
 ask_long (Delayed n) h = let all = word_and_number delayed_word n h in omega (arith, all)
 ask_long (AskRefused m) h = let all = refused_long m h in omega (arith, all)
 
-finished_long : (t : Table) → TableSound t → (n : ℕ) (x : Next) → Small (nextAnswer n x) → length (finished_line t n x) ≤ 88
+finished_long : (t : Table) → TableSound t → (n : ℕ) (x : Next) → Small (next_answer n x) → length (finished_line t n x) ≤ 88
 unfolding finished_line
 finished_long t sound n NobodyNext h = let all = word_and_number finished_word n h in omega (arith, all)
 finished_long t sound n (Grants g) (h, k) =
@@ -130,12 +130,12 @@ finished_long t sound n (Grants g) (h, k) =
     let name = name_long t sound g.operation.0 in
     omega (arith, all, examined, terminal, name)
 
-finish_long : (t : Table) → TableSound t → (r : FinishReply) → Small (finishAnswer r) → length (finish_line t r) ≤ 88
+finish_long : (t : Table) → TableSound t → (r : FinishReply) → Small (finish_answer r) → length (finish_line t r) ≤ 88
 unfolding finish_line
 finish_long t sound (Finished f) h = finished_long t sound f.examined f.next h
 finish_long t sound (FinishRefused m) h = let all = refused_long m h in omega (arith, all)
 
-withdraw_long : (r : WithdrawReply) → Small (withdrawAnswer r) → length (withdraw_line r) ≤ 88
+withdraw_long : (r : WithdrawReply) → Small (withdraw_answer r) → length (withdraw_line r) ≤ 88
 unfolding withdraw_line
 withdraw_long (Withdrawn p) h = let all = word_and_number withdrawn_word p h in omega (arith, all)
 withdraw_long (WithdrawRefused m) h = let all = refused_long m h in omega (arith, all)

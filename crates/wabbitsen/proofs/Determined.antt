@@ -9,7 +9,7 @@ use Rattle.steps.specs.declared.replies.OpenReply.{OpenReply}
 use Rattle.steps.specs.declared.replies.AskReply.{AskReply}
 use Rattle.steps.specs.declared.replies.FinishReply.{FinishReply}
 use Rattle.steps.specs.declared.replies.WithdrawReply.{WithdrawReply}
-use Rattle.steps.specs.Answers.{Answer, openAnswer, askAnswer, finishAnswer, withdrawAnswer}
+use Rattle.steps.specs.Answers.{Answer, open_answer, ask_answer, finish_answer, withdraw_answer}
 use Rattle.steps.proofs.CallsDetermined.{open_determined, ask_determined, finish_determined, withdraw_determined}
 use Rattle.compiler.specs.declared.replies.Reply.{Reply as CompileReply}
 use Rattle.compiler.specs.declared.replies.Compiled.{Compiled}
@@ -31,16 +31,16 @@ holding_determined b s b₁ b₂ = both_equal
 pub compile_reply_determined : (a : CompileReply) (r r' : Reply) → r ≡ compile_reply_of (answer a) → r' ≡ compile_reply_of (answer a) → r ≡ r'
 compile_reply_determined a r r' = both_equal
 
-pub open_reply_determined : (a : OpenReply) (r r' : Reply) → r ≡ reply_of (openAnswer a) → r' ≡ reply_of (openAnswer a) → r ≡ r'
+pub open_reply_determined : (a : OpenReply) (r r' : Reply) → r ≡ reply_of (open_answer a) → r' ≡ reply_of (open_answer a) → r ≡ r'
 open_reply_determined a r r' = both_equal
 
-pub ask_reply_determined : (a : AskReply) (r r' : Reply) → r ≡ reply_of (askAnswer a) → r' ≡ reply_of (askAnswer a) → r ≡ r'
+pub ask_reply_determined : (a : AskReply) (r r' : Reply) → r ≡ reply_of (ask_answer a) → r' ≡ reply_of (ask_answer a) → r ≡ r'
 ask_reply_determined a r r' = both_equal
 
-pub finish_reply_determined : (a : FinishReply) (r r' : Reply) → r ≡ reply_of (finishAnswer a) → r' ≡ reply_of (finishAnswer a) → r ≡ r'
+pub finish_reply_determined : (a : FinishReply) (r r' : Reply) → r ≡ reply_of (finish_answer a) → r' ≡ reply_of (finish_answer a) → r ≡ r'
 finish_reply_determined a r r' = both_equal
 
-pub withdraw_reply_determined : (a : WithdrawReply) (r r' : Reply) → r ≡ reply_of (withdrawAnswer a) → r' ≡ reply_of (withdrawAnswer a)
+pub withdraw_reply_determined : (a : WithdrawReply) (r r' : Reply) → r ≡ reply_of (withdraw_answer a) → r' ≡ reply_of (withdraw_answer a)
     → r ≡ r'
 withdraw_reply_determined a r r' = both_equal
 
@@ -67,16 +67,16 @@ module _ {A : Type 0} (answers : A → Answer) (Leaves : A → Session → List 
 
 pub opens_for_determined : OpensForDetermined
 opens_for_determined b b₁ b₂ l l₁ l₂ t r₁ r₂ =
-    exported_determined openAnswer _ (λ a₁ a₂ s₁ s₂ m₁ m₂. open_determined _ s₁ s₂ l m₁ m₂ t a₁ a₂) b b₁ b₂ l₁ l₂ r₁ r₂
+    exported_determined open_answer _ (λ a₁ a₂ s₁ s₂ m₁ m₂. open_determined _ s₁ s₂ l m₁ m₂ t a₁ a₂) b b₁ b₂ l₁ l₂ r₁ r₂
 
 pub asks_for_determined : AsksForDetermined
 asks_for_determined b b₁ b₂ l l₁ l₂ t n r₁ r₂ =
-    exported_determined askAnswer _ (λ a₁ a₂ s₁ s₂ m₁ m₂. ask_determined _ s₁ s₂ l m₁ m₂ t n a₁ a₂) b b₁ b₂ l₁ l₂ r₁ r₂
+    exported_determined ask_answer _ (λ a₁ a₂ s₁ s₂ m₁ m₂. ask_determined _ s₁ s₂ l m₁ m₂ t n a₁ a₂) b b₁ b₂ l₁ l₂ r₁ r₂
 
 pub finishes_for_determined : FinishesForDetermined
 finishes_for_determined b b₁ b₂ l l₁ l₂ t r₁ r₂ =
-    exported_determined finishAnswer _ (λ a₁ a₂ s₁ s₂ m₁ m₂. finish_determined _ s₁ s₂ l m₁ m₂ t a₁ a₂) b b₁ b₂ l₁ l₂ r₁ r₂
+    exported_determined finish_answer _ (λ a₁ a₂ s₁ s₂ m₁ m₂. finish_determined _ s₁ s₂ l m₁ m₂ t a₁ a₂) b b₁ b₂ l₁ l₂ r₁ r₂
 
 pub withdraws_for_determined : WithdrawsForDetermined
 withdraws_for_determined b b₁ b₂ l l₁ l₂ t r₁ r₂ =
-    exported_determined withdrawAnswer _ (λ a₁ a₂ s₁ s₂ m₁ m₂. withdraw_determined _ s₁ s₂ l m₁ m₂ t a₁ a₂) b b₁ b₂ l₁ l₂ r₁ r₂
+    exported_determined withdraw_answer _ (λ a₁ a₂ s₁ s₂ m₁ m₂. withdraw_determined _ s₁ s₂ l m₁ m₂ t a₁ a₂) b b₁ b₂ l₁ l₂ r₁ r₂

@@ -10,7 +10,7 @@ use Rattle.standing.specs.declared.records.Session.{Session}
 use Rattle.standing.specs.declared.searches.Found.{Found}
 use Rattle.standing.specs.declared.searches.Found.TheVariants.{Nobody, At}
 use Rattle.standing.specs.Soundness.{meets_set}
-use Rattle.steps.specs.Answers.{Answer, openAnswer, askAnswer, finishAnswer, withdrawAnswer}
+use Rattle.steps.specs.Answers.{Answer, open_answer, ask_answer, finish_answer, withdraw_answer}
 use Rattle.steps.specs.Calling.{Serves}
 use Rattle.steps.specs.Steps.{Outcome, is_free, freed, picked, hand_on, entry_of, take_back, open_step, ask_step, finish_step, withdraw_step}
 use Rattle.compiler.specs.declared.replies.Reply.{Reply as CompileReply}
@@ -71,17 +71,17 @@ module _ {A : Type 0} (answer : A → Answer) {R : ℕ → Type 0} (b b' : Recor
       (call.is_record ∙ ap (holding b) session ∙ holding_session_in b, list)
 
 pub refused_open_changes_nothing : RefusedOpenChangesNothing
-refused_open_changes_nothing b b' l l' t r call = changes_nothing openAnswer b b' l l' _ r (open_step_serves t l) call
+refused_open_changes_nothing b b' l l' t r call = changes_nothing open_answer b b' l l' _ r (open_step_serves t l) call
 
 pub refused_ask_changes_nothing : RefusedAskChangesNothing
-refused_ask_changes_nothing b b' l l' t n r call = changes_nothing askAnswer b b' l l' _ r (ask_step_serves (session_in b) l _ _ refl) call
+refused_ask_changes_nothing b b' l l' t n r call = changes_nothing ask_answer b b' l l' _ r (ask_step_serves (session_in b) l _ _ refl) call
 
 pub refused_finish_changes_nothing : RefusedFinishChangesNothing
-refused_finish_changes_nothing b b' l l' t r call = changes_nothing finishAnswer b b' l l' _ r (finish_step_serves (session_in b) l) call
+refused_finish_changes_nothing b b' l l' t r call = changes_nothing finish_answer b b' l l' _ r (finish_step_serves (session_in b) l) call
 
 pub refused_withdraw_changes_nothing : RefusedWithdrawChangesNothing
 refused_withdraw_changes_nothing b b' l l' t r call =
-    changes_nothing withdrawAnswer b b' l l' _ r (withdraw_step_serves (session_in b) l t.0) call
+    changes_nothing withdraw_answer b b' l l' _ r (withdraw_step_serves (session_in b) l t.0) call
 
 pub refused_compile_zeros : RefusedCompileZeros
 refused_compile_zeros text t r call number =

@@ -12,7 +12,7 @@ use Rattle.steps.specs.declared.replies.OpenReply.{OpenReply}
 use Rattle.steps.specs.declared.replies.AskReply.{AskReply}
 use Rattle.steps.specs.declared.replies.FinishReply.{FinishReply}
 use Rattle.steps.specs.declared.replies.WithdrawReply.{WithdrawReply}
-use Rattle.steps.specs.Answers.{Answer, openAnswer, askAnswer, finishAnswer, withdrawAnswer}
+use Rattle.steps.specs.Answers.{Answer, open_answer, ask_answer, finish_answer, withdraw_answer}
 use Rattle.steps.specs.Answers.Answer.{opened, granted, delayed, finished, handed, withdrawn, refused}
 use Rattle.steps.specs.Calling.{Opens, Asks, Finishes, Withdraws}
 use Rattle.compiler.specs.declared.replies.Reply.{Reply as CompileReply}
@@ -85,13 +85,13 @@ pub record Exported (R : Type 0) (answer : R → Answer) (Leaves : R → Session
 
 -- the four calls: the record and list before, what is asked, and C's reply, the record and the list after
 abbrev pub OpensFor : Record → List Entry → Table → Reply → Record → List Entry → Type 0
-OpensFor b l t r b' l' = Exported OpenReply openAnswer (Opens (session_in b) l t) b r b' l'
+OpensFor b l t r b' l' = Exported OpenReply open_answer (Opens (session_in b) l t) b r b' l'
 
 abbrev pub AsksFor : Record → List Entry → Terminal → Name → Reply → Record → List Entry → Type 0
-AsksFor b l t n r b' l' = Exported AskReply askAnswer (Asks (session_in b) l t n) b r b' l'
+AsksFor b l t n r b' l' = Exported AskReply ask_answer (Asks (session_in b) l t n) b r b' l'
 
 abbrev pub FinishesFor : Record → List Entry → Terminal → Reply → Record → List Entry → Type 0
-FinishesFor b l t r b' l' = Exported FinishReply finishAnswer (Finishes (session_in b) l t) b r b' l'
+FinishesFor b l t r b' l' = Exported FinishReply finish_answer (Finishes (session_in b) l t) b r b' l'
 
 abbrev pub WithdrawsFor : Record → List Entry → Terminal → Reply → Record → List Entry → Type 0
-WithdrawsFor b l t r b' l' = Exported WithdrawReply withdrawAnswer (Withdraws (session_in b) l t) b r b' l'
+WithdrawsFor b l t r b' l' = Exported WithdrawReply withdraw_answer (Withdraws (session_in b) l t) b r b' l'

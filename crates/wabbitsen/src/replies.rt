@@ -1,6 +1,6 @@
 // What a call replies to C: one struct for all five, by document 01's number and values.
 ghost use Rattle.std.specs.Prelude.{◌≡◌};
-ghost use Rattle.steps.specs.Answers.{openAnswer, askAnswer, nextAnswer, finishAnswer, withdrawAnswer};
+ghost use Rattle.steps.specs.Answers.{open_answer, ask_answer, next_answer, finish_answer, withdraw_answer};
 ghost use Rattle.compiler.specs.Compiling.{answer};
 ghost use Rattle.wabbitsen.specs.Exporting.{told, reply_of, compile_reply_of};
 
@@ -46,7 +46,7 @@ pub fn compile_reply(reply: CompileReply) -> Reply
 }
 
 pub fn open_reply(reply: OpenReply) -> Reply
-    ensures { result ≡ reply_of (openAnswer reply) }
+    ensures { result ≡ reply_of (open_answer reply) }
 {
     match reply {
         OpenReply::Opened => telling(0, 0, 0),
@@ -55,7 +55,7 @@ pub fn open_reply(reply: OpenReply) -> Reply
 }
 
 pub fn ask_reply(reply: AskReply) -> Reply
-    ensures { result ≡ reply_of (askAnswer reply) }
+    ensures { result ≡ reply_of (ask_answer reply) }
 {
     match reply {
         AskReply::Granted => telling(0, 0, 1),
@@ -66,7 +66,7 @@ pub fn ask_reply(reply: AskReply) -> Reply
 
 // Of a finish that is served.
 fn next_reply(examined: usize, next: Next) -> Reply
-    ensures { result ≡ reply_of (nextAnswer examined next) }
+    ensures { result ≡ reply_of (next_answer examined next) }
 {
     match next {
         Next::Granted(grant) => {
@@ -85,7 +85,7 @@ fn next_reply(examined: usize, next: Next) -> Reply
 }
 
 pub fn finish_reply(reply: FinishReply) -> Reply
-    ensures { result ≡ reply_of (finishAnswer reply) }
+    ensures { result ≡ reply_of (finish_answer reply) }
 {
     match reply {
         FinishReply::Finished(finished) => {
@@ -97,7 +97,7 @@ pub fn finish_reply(reply: FinishReply) -> Reply
 }
 
 pub fn withdraw_reply(reply: WithdrawReply) -> Reply
-    ensures { result ≡ reply_of (withdrawAnswer reply) }
+    ensures { result ≡ reply_of (withdraw_answer reply) }
 {
     match reply {
         WithdrawReply::Withdrawn(place) => telling(place, 0, 0),

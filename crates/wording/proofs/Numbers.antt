@@ -1,5 +1,5 @@
 -- Reading a number digit by digit: what is left of it, and how large it can have become.
-use mathlib.Core.Path.{◌≡◌, refl}
+use mathlib.Core.Path.{◌≡◌, refl, sym}
 use mathlib.Core.Bool.{Bool, true, false, ◌&&◌, false≢true}
 use mathlib.Core.Logic.{◌⊎◌, inl, inr}
 use mathlib.Core.List.{List, []}
@@ -71,6 +71,9 @@ not_one_to_three s (inr h) = go (leb 1 (length s)) refl
     go : (u : Bool) → leb 1 (length s) ≡ u → number_in s ≡ None
     go true e = rw (e, lt-leb (length s) 3 h) refl
     go false e = rw e refl
+
+pub more_than_three : (s : List ℕ) → 3 < length s → None ≡ number_in s
+more_than_three s h = sym (not_one_to_three s (inr h))
 
 module _ (s : List ℕ) (few : length s ≤ 3) (some : 1 ≤ length s) where
   pub not_all_digits : all_digits s ≡ false → number_in s ≡ None

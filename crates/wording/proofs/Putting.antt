@@ -1,11 +1,12 @@
 -- Bytes put into an output: one after the other they stand as if they had been put at once.
 use mathlib.Core.Path.{◌≡◌, refl, sym, ap, subst, ◌∙◌}
 use mathlib.Core.List.{List, [], ◌∷◌, ◌++◌, append-nil, append_assoc}
-use Prim.Native.Nat.{ℕ, suc, ◌+◌, ◌≤◌, min}
+use Prim.Native.Nat.{ℕ, suc, ◌+◌, ◌≤◌, ◌<◌, min}
 use native.Mathlib.Omega.{arith, min_cases}
 use lib.ListN.{length, length-append, take, set, length-set}
 use lib.Seq.{set_out, take-suc-set}
-use Rattle.wording.specs.Writing.{put_over, Puts}
+use Rattle.wording.specs.Writing.{digit_of, decimal, put_over, Puts}
+use Rattle.wording.proofs.Digits.{decimal_one}
 
 pub put_length : (out : List ℕ) (at : ℕ) (s : List ℕ) → length (put_over out at s) ≡ length out
 unfolding put_over
@@ -63,6 +64,10 @@ puts_length {out = out} {at = at} {s = s} h = ap length h.output ∙ put_length 
 -- the bytes in other words
 pub puts_as : {out after : List ℕ} {at k : ℕ} {s t : List ℕ} → s ≡ t → Puts out at s k after → Puts out at t k after
 puts_as {out = out} {after = after} {at = at} {k = k} e h = subst (λ x. Puts out at x k after) e h
+
+-- a number of one digit
+pub one_digit_printed : (n d : ℕ) → n < 10 → d ≡ digit_of n → decimal n ≡ d ∷ []
+one_digit_printed n d small is = rw is (decimal_one n small)
 
 -- bytes that have room stand where they were put, behind what stood there before
 put_stands : (out : List ℕ) (at : ℕ) (s : List ℕ) → at + length s ≤ length out

@@ -37,10 +37,10 @@ lines_sized (b ∷ []) = go (eqb b lf) refl
     go : (t : Bool) → eqb b lf ≡ t → sized (lines_of (b ∷ [])) ≤ length (b ∷ []) + 1
     go true e = rw e (omega arith)
     go false e = rw e (omega arith)
-lines_sized (b ∷ d ∷ s) = go (eqb b lf) refl (lines_sized (d ∷ s)) (some-line d s)
+lines_sized (b ∷ d ∷ s) = go (eqb b lf) refl (lines_sized (d ∷ s)) (some_line d s)
   where
-    some-line : (d : ℕ) (s : List ℕ) → (p : List ℕ) × (ps : List (List ℕ)) × (lines_of (d ∷ s) ≡ p ∷ ps)
-    some-line d s = by_first (eqb d lf) refl (lines_of s) refl
+    some_line : (d : ℕ) (s : List ℕ) → (p : List ℕ) × (ps : List (List ℕ)) × (lines_of (d ∷ s) ≡ p ∷ ps)
+    some_line d s = by_first (eqb d lf) refl (lines_of s) refl
       where
         by_first : (t : Bool) → eqb d lf ≡ t → (ls : List (List ℕ)) → lines_of s ≡ ls
             → (p : List ℕ) × (ps : List (List ℕ)) × (lines_of (d ∷ s) ≡ p ∷ ps)

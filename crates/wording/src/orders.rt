@@ -75,6 +75,7 @@ fn is_digit(b: u8) -> bool
 }
 
 // The number that all of the bytes are.
+#[tactic(auto, using(crate::proofs::Numbers::more_than_three))]
 fn number_in(s: &[u8]) -> Number
     ensures { result ≡ number_in s.now }
 {

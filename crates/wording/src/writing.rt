@@ -38,6 +38,7 @@ fn digit(n: u64) -> u8
 }
 
 // A number, without leading zeros: all but its last digit first.
+#[tactic(auto, using(crate::proofs::Putting::one_digit_printed))]
 pub fn put_number(out: &mut [u8], at: usize, n: u64) -> usize
     ensures { Puts out.old at (decimal n) result out.new }
 {

@@ -2,14 +2,14 @@
 use mathlib.Core.Path.{◌≡◌, sym, ap, ◌∙◌}
 use mathlib.Core.Bool.{true}
 use native.Mathlib.Omega.{arith}
-use borrow.Author.Tests.{eq-eqb, ne_eqb}
+use borrow.Author.Tests.{eq-eqb}
 use mathlib.Core.List.{List}
 use Prim.Native.Nat.{ℕ}
 use lib.Dec.{eqb}
 use lib.ListN.{get_or}
 use Rattle.text.specs.Classes.{letter, class_of}
 use Rattle.text.specs.Tokens.{is_name}
-use Rattle.text.proofs.WellFormed.{whole_word, part_word, no_letter_first, nothing_there}
+use Rattle.text.proofs.WellFormed.{whole_word, part_word, nothing_there}
 use Rattle.text.proofs.tokens.well_formed.Goals as goal
 
 -- the first byte is a letter
@@ -18,10 +18,6 @@ letter_first n r is e = rw (← is) (eq-eqb _ _ e)
 
 pub returns-then-n-eq0 : goal.returns-then-n-eq0
 returns-then-n-eq0 c = sym (nothing_there _ c.if-n-eq0.true)
-
-pub returns-then-class_in-ne-LETTER : goal.returns-then-class_in-ne-LETTER
-returns-then-class_in-ne-LETTER c =
-    sym (no_letter_first c.args.n.now (omega arith) (rw (← c.class_in.ensures) (ne_eqb _ _ c.if-class_in-ne-LETTER.true)))
 
 pub returns-then-run-n : goal.returns-then-run-n
 returns-then-run-n c =

