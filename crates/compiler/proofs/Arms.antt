@@ -1,13 +1,14 @@
 -- The arms of a `match` on a token: what the last arm, which takes every other token, knows. The match tells tokens apart by their
 -- places in the enum, and these are their kinds.
 use mathlib.Core.Path.{◌≡◌, refl, sym, ap, subst, ◌∙◌}
-use mathlib.Core.Bool.{true, false, not}
+use mathlib.Core.Bool.{true, false, not, false≢true}
 use mathlib.Core.List.{List, [], ◌∷◌}
 use Prim.Native.Nat.{ℕ}
 use mir.Val.{has_key}
 use types.Run.{OneOf, hit, miss}
 use borrow.Author.Tests.{ne_eqb}
 use lib.Dec.{T, eqb}
+use lib.ListN.{get_or}
 use denote.Enum.Declared.{tag_of}
 use Rattle.text.specs.contracts.tokens.Token as Token-enum
 use Rattle.text.specs.declared.tokens.Token.{Token}
@@ -40,6 +41,29 @@ other_kind ks k none t h = ne_eqb (kind t) k (λ e. miss ks k none (subst (OneOf
 of_kind : (ks : List ℕ) (t : Token) → T (has_key ks (kind t)) → Tagged ks t
 of_kind ks t h = subst (OneOf ks) (sym (tag_is_kind t)) (hit ks (kind t) h)
 
+-- a token other than one that is no name is of another kind
+abbrev unnamed : List Token
+unnamed = Semicolon ∷ Plus ∷ Star ∷ Open ∷ Close ∷ Path ∷ End ∷ Bad ∷ TextEnd ∷ Bad ∷ Long ∷ []
+
+of_its_kind : (t : Token) → eqb (kind t) 7 ≡ false → get_or unnamed (kind t) Bad ≡ t
+of_its_kind Semicolon h = refl
+of_its_kind Plus h = refl
+of_its_kind Star h = refl
+of_its_kind Open h = refl
+of_its_kind Close h = refl
+of_its_kind Path h = refl
+of_its_kind End h = refl
+of_its_kind (Named n) h = absurd (false≢true (sym h))
+of_its_kind TextEnd h = refl
+of_its_kind Bad h = refl
+of_its_kind Long h = refl
+
+pub other_than : (a : Token) → eqb (kind a) 7 ≡ false → (t : Token) → (t ≡ a → ⊥) → eqb (kind t) (kind a) ≡ false
+other_than a no_name t other =
+    ne_eqb (kind t) (kind a)
+    (λ e. other
+    (sym (of_its_kind t (ap (λ n. eqb n 7) e ∙ no_name)) ∙ ap (λ n. get_or unnamed n Bad) e ∙ of_its_kind a no_name))
+
 abbrev all_but_star : List ℕ
 all_but_star = 0 ∷ 1 ∷ 3 ∷ 4 ∷ 5 ∷ 6 ∷ 7 ∷ 8 ∷ 9 ∷ 10 ∷ []
 
@@ -49,37 +73,11 @@ not_star t h = ap not (other_kind all_but_star 2 tt t h)
 abbrev all_but_close : List ℕ
 all_but_close = 0 ∷ 1 ∷ 2 ∷ 3 ∷ 5 ∷ 6 ∷ 7 ∷ 8 ∷ 9 ∷ 10 ∷ []
 
-pub but_close : (t : Token) → (t ≡ Close → ⊥) → Tagged all_but_close t
-but_close Semicolon h = of_kind all_but_close Semicolon tt
-but_close Plus h = of_kind all_but_close Plus tt
-but_close Star h = of_kind all_but_close Star tt
-but_close Open h = of_kind all_but_close Open tt
-but_close Close h = absurd (h refl)
-but_close Path h = of_kind all_but_close Path tt
-but_close End h = of_kind all_but_close End tt
-but_close (Named n) h = of_kind all_but_close (Named n) tt
-but_close TextEnd h = of_kind all_but_close TextEnd tt
-but_close Bad h = of_kind all_but_close Bad tt
-but_close Long h = of_kind all_but_close Long tt
-
 pub not_close : (t : Token) → Tagged all_but_close t → is_close t ≡ false
 not_close t h = other_kind all_but_close 4 tt t h
 
 abbrev all_but_path : List ℕ
 all_but_path = 0 ∷ 1 ∷ 2 ∷ 3 ∷ 4 ∷ 6 ∷ 7 ∷ 8 ∷ 9 ∷ 10 ∷ []
-
-pub but_path : (t : Token) → (t ≡ Path → ⊥) → Tagged all_but_path t
-but_path Semicolon h = of_kind all_but_path Semicolon tt
-but_path Plus h = of_kind all_but_path Plus tt
-but_path Star h = of_kind all_but_path Star tt
-but_path Open h = of_kind all_but_path Open tt
-but_path Close h = of_kind all_but_path Close tt
-but_path Path h = absurd (h refl)
-but_path End h = of_kind all_but_path End tt
-but_path (Named n) h = of_kind all_but_path (Named n) tt
-but_path TextEnd h = of_kind all_but_path TextEnd tt
-but_path Bad h = of_kind all_but_path Bad tt
-but_path Long h = of_kind all_but_path Long tt
 
 pub not_path : (t : Token) → Tagged all_but_path t → is_path t ≡ false
 not_path t h = other_kind all_but_path 5 tt t h
@@ -87,37 +85,11 @@ not_path t h = other_kind all_but_path 5 tt t h
 abbrev all_but_end : List ℕ
 all_but_end = 0 ∷ 1 ∷ 2 ∷ 3 ∷ 4 ∷ 5 ∷ 7 ∷ 8 ∷ 9 ∷ 10 ∷ []
 
-pub but_end : (t : Token) → (t ≡ End → ⊥) → Tagged all_but_end t
-but_end Semicolon h = of_kind all_but_end Semicolon tt
-but_end Plus h = of_kind all_but_end Plus tt
-but_end Star h = of_kind all_but_end Star tt
-but_end Open h = of_kind all_but_end Open tt
-but_end Close h = of_kind all_but_end Close tt
-but_end Path h = of_kind all_but_end Path tt
-but_end End h = absurd (h refl)
-but_end (Named n) h = of_kind all_but_end (Named n) tt
-but_end TextEnd h = of_kind all_but_end TextEnd tt
-but_end Bad h = of_kind all_but_end Bad tt
-but_end Long h = of_kind all_but_end Long tt
-
 pub not_end : (t : Token) → Tagged all_but_end t → is_end t ≡ false
 not_end t h = other_kind all_but_end 6 tt t h
 
 abbrev all_but_text_end : List ℕ
 all_but_text_end = 0 ∷ 1 ∷ 2 ∷ 3 ∷ 4 ∷ 5 ∷ 6 ∷ 7 ∷ 9 ∷ 10 ∷ []
-
-pub but_text_end : (t : Token) → (t ≡ TextEnd → ⊥) → Tagged all_but_text_end t
-but_text_end Semicolon h = of_kind all_but_text_end Semicolon tt
-but_text_end Plus h = of_kind all_but_text_end Plus tt
-but_text_end Star h = of_kind all_but_text_end Star tt
-but_text_end Open h = of_kind all_but_text_end Open tt
-but_text_end Close h = of_kind all_but_text_end Close tt
-but_text_end Path h = of_kind all_but_text_end Path tt
-but_text_end End h = of_kind all_but_text_end End tt
-but_text_end (Named n) h = of_kind all_but_text_end (Named n) tt
-but_text_end TextEnd h = absurd (h refl)
-but_text_end Bad h = of_kind all_but_text_end Bad tt
-but_text_end Long h = of_kind all_but_text_end Long tt
 
 pub not_text_end : (t : Token) → Tagged all_but_text_end t → is_text_end t ≡ false
 not_text_end t h = other_kind all_but_text_end 8 tt t h

@@ -13,91 +13,117 @@ use Rattle.compiler.proofs.FactorPaths as factors
 use Rattle.compiler.proofs.readers.+expression_factor_sequence.Goals as goal
 
 pub expression-next_sequence-onward-requires : goal.expression-next_sequence-onward-requires
-expression-next_sequence-onward-requires t c = (c.loop-from.invariant.0 c.args.t (expressions.expression_starts c.args.s.now c.args.depth c.args.t c.sequence-e.result c.sequence-e.ensures)).within
+expression-next_sequence-onward-requires t c =
+    let given = c.loop-from.invariant.0 c.args.t (expressions.expression_starts c.args.s.now c.args.depth c.args.t c.sequence-e.result c.sequence-e.ensures) in
+    given.within
 
 pub expression-slice_bounds-sequence-count : goal.expression-slice_bounds-sequence-count
-expression-slice_bounds-sequence-count t c = (sequence_follows c.args.s.now c.loop-from.e (c.loop-from.invariant.0 c.args.t (expressions.expression_starts c.args.s.now c.args.depth c.args.t c.sequence-e.result c.sequence-e.ensures)).within c.in-At.from (sym c.next_sequence-onward.ensures ∙ c.in-At.is)).fits
+expression-slice_bounds-sequence-count t c =
+    let given = c.loop-from.invariant.0 c.args.t (expressions.expression_starts c.args.s.now c.args.depth c.args.t c.sequence-e.result c.sequence-e.ensures) in
+    let on = sequence_follows c.args.s.now c.loop-from.e given.within c.in-At.from (sym c.next_sequence-onward.ensures ∙ c.in-At.is) in
+    on.fits
 
 pub expression-slice_bounds-sequence-start : goal.expression-slice_bounds-sequence-start
-expression-slice_bounds-sequence-start t c = (sequence_follows c.args.s.now c.loop-from.e (c.loop-from.invariant.0 c.args.t (expressions.expression_starts c.args.s.now c.args.depth c.args.t c.sequence-e.result c.sequence-e.ensures)).within c.in-At.from (sym c.next_sequence-onward.ensures ∙ c.in-At.is)).fits
+expression-slice_bounds-sequence-start t c =
+    let given = c.loop-from.invariant.0 c.args.t (expressions.expression_starts c.args.s.now c.args.depth c.args.t c.sequence-e.result c.sequence-e.ensures) in
+    let on = sequence_follows c.args.s.now c.loop-from.e given.within c.in-At.from (sym c.next_sequence-onward.ensures ∙ c.in-At.is) in
+    on.fits
 
 pub expression-returns-then-q-ne0 : goal.expression-returns-then-q-ne0
 expression-returns-then-q-ne0 t c =
+    let given = c.loop-from.invariant.0 c.args.t (expressions.expression_starts c.args.s.now c.args.depth c.args.t c.sequence-e.result c.sequence-e.ensures) in
+    let on = sequence_follows c.args.s.now c.loop-from.e given.within c.in-At.from (sym c.next_sequence-onward.ensures ∙ c.in-At.is) in
     expressions.sequence_is_refused
     c.args.s.now
     c.args.depth
     c.args.t
     c.loop-from.e
-    (c.loop-from.invariant.0 c.args.t (expressions.expression_starts c.args.s.now c.args.depth c.args.t c.sequence-e.result c.sequence-e.ensures))
+    given
     c.loop-from.invariant.1
     c.in-At.from
-    (sequence_follows c.args.s.now c.loop-from.e (c.loop-from.invariant.0 c.args.t (expressions.expression_starts c.args.s.now c.args.depth c.args.t c.sequence-e.result c.sequence-e.ensures)).within c.in-At.from (sym c.next_sequence-onward.ensures ∙ c.in-At.is)) _ c.table_of.ensures _
+    on _ c.table_of.ensures _
     c.sequence-q.ensures c.if-q-ne0.true
 
 pub expression-loop-from-preserved : goal.expression-loop-from-preserved
-expression-loop-from-preserved t c = (
-  λ t h. expressions.expression_grows
-      c.args.s.now
-      c.args.depth
-      t c.loop-from.e
-      (c.loop-from.invariant.0 t h)
-      c.loop-from.invariant.1
-      c.in-At.from (sequence_follows c.args.s.now c.loop-from.e (c.loop-from.invariant.0 c.args.t (expressions.expression_starts c.args.s.now c.args.depth c.args.t c.sequence-e.result c.sequence-e.ensures)).within c.in-At.from (sym c.next_sequence-onward.ensures ∙ c.in-At.is)) _ c.table_of.ensures _
-      c.sequence-q.ensures c.if-q-ne0.false _ c.or_read-e.ensures,
-  ap (λ (r : Reading).
-      r.number) c.or_read-e.ensures ∙ c.if-q-ne0.false,
-)
+expression-loop-from-preserved t c =
+    let given = c.loop-from.invariant.0 c.args.t (expressions.expression_starts c.args.s.now c.args.depth c.args.t c.sequence-e.result c.sequence-e.ensures) in
+    let on = sequence_follows c.args.s.now c.loop-from.e given.within c.in-At.from (sym c.next_sequence-onward.ensures ∙ c.in-At.is) in (
+      λ t h. expressions.expression_grows
+          c.args.s.now
+          c.args.depth
+          t c.loop-from.e
+          (c.loop-from.invariant.0 t h)
+          c.loop-from.invariant.1
+          c.in-At.from on _ c.table_of.ensures _
+          c.sequence-q.ensures c.if-q-ne0.false _ c.or_read-e.ensures,
+      ap (λ (r : Reading).
+          r.number) c.or_read-e.ensures ∙ c.if-q-ne0.false,
+    )
 
 pub expression-returns-in-Ends : goal.expression-returns-in-Ends
 expression-returns-in-Ends t c =
+    let given = c.loop-from.invariant.0 c.args.t (expressions.expression_starts c.args.s.now c.args.depth c.args.t c.sequence-e.result c.sequence-e.ensures) in
     expressions.expression_ends c.args.s.now
     c.args.depth
     c.args.t c.loop-from.e
-    (c.loop-from.invariant.0 c.args.t (expressions.expression_starts c.args.s.now c.args.depth c.args.t c.sequence-e.result c.sequence-e.ensures)) c.loop-from.invariant.1
+    given c.loop-from.invariant.1
     (sym c.next_sequence-onward.ensures ∙ c.in-Ends.is)
 
 pub sequence-next_factor-onward-requires : goal.sequence-next_factor-onward-requires
-sequence-next_factor-onward-requires t c = (c.loop-from.invariant.0 c.args.t (sequences.sequence_starts c.args.s.now c.args.depth c.args.t c.factor-q.result c.factor-q.ensures)).within
+sequence-next_factor-onward-requires t c =
+    let given = c.loop-from.invariant.0 c.args.t (sequences.sequence_starts c.args.s.now c.args.depth c.args.t c.factor-q.result c.factor-q.ensures) in
+    given.within
 
 pub sequence-slice_bounds-factor-count : goal.sequence-slice_bounds-factor-count
-sequence-slice_bounds-factor-count t c = (factor_follows c.args.s.now c.loop-from.q (c.loop-from.invariant.0 c.args.t (sequences.sequence_starts c.args.s.now c.args.depth c.args.t c.factor-q.result c.factor-q.ensures)).within c.in-At.from (sym c.next_factor-onward.ensures ∙ c.in-At.is)).fits
+sequence-slice_bounds-factor-count t c =
+    let given = c.loop-from.invariant.0 c.args.t (sequences.sequence_starts c.args.s.now c.args.depth c.args.t c.factor-q.result c.factor-q.ensures) in
+    let on = factor_follows c.args.s.now c.loop-from.q given.within c.in-At.from (sym c.next_factor-onward.ensures ∙ c.in-At.is) in
+    on.fits
 
 pub sequence-slice_bounds-factor-start : goal.sequence-slice_bounds-factor-start
-sequence-slice_bounds-factor-start t c = (factor_follows c.args.s.now c.loop-from.q (c.loop-from.invariant.0 c.args.t (sequences.sequence_starts c.args.s.now c.args.depth c.args.t c.factor-q.result c.factor-q.ensures)).within c.in-At.from (sym c.next_factor-onward.ensures ∙ c.in-At.is)).fits
+sequence-slice_bounds-factor-start t c =
+    let given = c.loop-from.invariant.0 c.args.t (sequences.sequence_starts c.args.s.now c.args.depth c.args.t c.factor-q.result c.factor-q.ensures) in
+    let on = factor_follows c.args.s.now c.loop-from.q given.within c.in-At.from (sym c.next_factor-onward.ensures ∙ c.in-At.is) in
+    on.fits
 
 pub sequence-returns-then-f-ne0 : goal.sequence-returns-then-f-ne0
 sequence-returns-then-f-ne0 t c =
+    let given = c.loop-from.invariant.0 c.args.t (sequences.sequence_starts c.args.s.now c.args.depth c.args.t c.factor-q.result c.factor-q.ensures) in
+    let on = factor_follows c.args.s.now c.loop-from.q given.within c.in-At.from (sym c.next_factor-onward.ensures ∙ c.in-At.is) in
     sequences.factor_refused
     c.args.s.now
     c.args.depth
     c.args.t
     c.loop-from.q
-    (c.loop-from.invariant.0 c.args.t (sequences.sequence_starts c.args.s.now c.args.depth c.args.t c.factor-q.result c.factor-q.ensures))
+    given
     c.loop-from.invariant.1
     c.in-At.from
-    (factor_follows c.args.s.now c.loop-from.q (c.loop-from.invariant.0 c.args.t (sequences.sequence_starts c.args.s.now c.args.depth c.args.t c.factor-q.result c.factor-q.ensures)).within c.in-At.from (sym c.next_factor-onward.ensures ∙ c.in-At.is)) _ c.table_of.ensures _
+    on _ c.table_of.ensures _
     c.factor-f.ensures c.if-f-ne0.true
 
 pub sequence-loop-from-preserved : goal.sequence-loop-from-preserved
-sequence-loop-from-preserved t c = (
-  λ t h. sequences.sequence_grows
-      c.args.s.now
-      c.args.depth
-      t c.loop-from.q
-      (c.loop-from.invariant.0 t h)
-      c.loop-from.invariant.1
-      c.in-At.from (factor_follows c.args.s.now c.loop-from.q (c.loop-from.invariant.0 c.args.t (sequences.sequence_starts c.args.s.now c.args.depth c.args.t c.factor-q.result c.factor-q.ensures)).within c.in-At.from (sym c.next_factor-onward.ensures ∙ c.in-At.is)) _ c.table_of.ensures _
-      c.factor-f.ensures c.if-f-ne0.false _ c.then_read-q.ensures,
-  ap (λ (r : Reading).
-      r.number) c.then_read-q.ensures ∙ c.if-f-ne0.false,
-)
+sequence-loop-from-preserved t c =
+    let given = c.loop-from.invariant.0 c.args.t (sequences.sequence_starts c.args.s.now c.args.depth c.args.t c.factor-q.result c.factor-q.ensures) in
+    let on = factor_follows c.args.s.now c.loop-from.q given.within c.in-At.from (sym c.next_factor-onward.ensures ∙ c.in-At.is) in (
+      λ t h. sequences.sequence_grows
+          c.args.s.now
+          c.args.depth
+          t c.loop-from.q
+          (c.loop-from.invariant.0 t h)
+          c.loop-from.invariant.1
+          c.in-At.from on _ c.table_of.ensures _
+          c.factor-f.ensures c.if-f-ne0.false _ c.then_read-q.ensures,
+      ap (λ (r : Reading).
+          r.number) c.then_read-q.ensures ∙ c.if-f-ne0.false,
+    )
 
 pub sequence-returns-in-Ends : goal.sequence-returns-in-Ends
 sequence-returns-in-Ends t c =
+    let given = c.loop-from.invariant.0 c.args.t (sequences.sequence_starts c.args.s.now c.args.depth c.args.t c.factor-q.result c.factor-q.ensures) in
     sequences.sequence_ends c.args.s.now
     c.args.depth
     c.args.t c.loop-from.q
-    (c.loop-from.invariant.0 c.args.t (sequences.sequence_starts c.args.s.now c.args.depth c.args.t c.factor-q.result c.factor-q.ensures)) c.loop-from.invariant.1
+    given c.loop-from.invariant.1
     (sym c.next_factor-onward.ensures ∙ c.in-Ends.is)
 
 pub factor-overflow_add-end : goal.factor-overflow_add-end

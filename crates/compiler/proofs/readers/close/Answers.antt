@@ -1,7 +1,9 @@
 -- `readers::close` meets its contract: each way through it is a lemma of Closing.
+use mathlib.Core.Path.{refl}
 use borrow.Author.Tests.{ne_eqb}
 use Rattle.compiler.specs.Reading.{closed}
-use Rattle.compiler.proofs.Arms.{but_close, not_close}
+use Rattle.text.specs.declared.tokens.Token.TheVariants.{Close}
+use Rattle.compiler.proofs.Arms.{other_than}
 use Rattle.compiler.proofs.Closing.{used_behind, start_behind, closed_closes, closed_halts}
 use Rattle.compiler.proofs.readers.close.Goals as goal
 
@@ -32,5 +34,5 @@ returns-in_default c =
     c.args.e _
     c.next-r.ensures _
     c.if-e-ne0.false
-    (not_close c.next-r.result.token (but_close _ c.in_default.not-Close))
+    (other_than Close refl c.next-r.result.token c.in_default.not-Close)
     (simp (c.halt.ensures, c.refusal_of.ensures))

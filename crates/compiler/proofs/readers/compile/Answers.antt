@@ -1,7 +1,9 @@
 -- `readers::compile` meets its contract: each way through it gives what the machine's verdict comes to (Wholes), and that fulfils
 -- `Compiles` (CompiledTexts).
+use mathlib.Core.Path.{refl}
 use native.Mathlib.Omega.{arith}
-use Rattle.compiler.proofs.Arms.{but_path, not_path}
+use Rattle.text.specs.declared.tokens.Token.TheVariants.{Path}
+use Rattle.compiler.proofs.Arms.{other_than}
 use Rattle.compiler.proofs.CompiledTexts.{compiles}
 use Rattle.compiler.proofs.FactorPaths.{used_fits}
 use Rattle.compiler.proofs.Wholes.{compile_not_path, starts_with_path}
@@ -25,6 +27,5 @@ pub returns-in_default : goal.returns-in_default
 returns-in_default c =
     compiles _ _
     (compile_not_path _ (omega arith) _
-    c.next-r.ensures (not_path c.next-r.result.token
-    (but_path _ c.in_default.not-Path)) _
+    c.next-r.ensures (other_than Path refl c.next-r.result.token c.in_default.not-Path) _
     (simp (c.refuse-in_default.ensures, c.refusal_of.ensures)))

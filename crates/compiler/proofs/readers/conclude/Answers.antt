@@ -1,6 +1,8 @@
 -- `readers::conclude` meets its contract: the text ends, or what stands there is refused (Concluding).
+use mathlib.Core.Path.{refl}
 use native.Mathlib.Omega.{arith}
-use Rattle.compiler.proofs.Arms.{but_text_end, not_text_end}
+use Rattle.text.specs.declared.tokens.Token.TheVariants.{TextEnd}
+use Rattle.compiler.proofs.Arms.{other_than}
 use Rattle.compiler.proofs.Concluding.{concluded_accepts, concluded_refuses}
 use Rattle.compiler.proofs.FactorPaths.{start_fits}
 use Rattle.compiler.proofs.readers.conclude.Goals as goal
@@ -13,6 +15,5 @@ returns-in-TextEnd c = concluded_accepts _ _ _ _ c.next-r.ensures c.in-TextEnd.i
 
 pub returns-in_default : goal.returns-in_default
 returns-in_default c =
-    concluded_refuses _ _ _ _ c.next-r.ensures (not_text_end
-    c.next-r.result.token (but_text_end _ c.in_default.not-TextEnd)) _
+    concluded_refuses _ _ _ _ c.next-r.ensures (other_than TextEnd refl c.next-r.result.token c.in_default.not-TextEnd) _
     (simp (c.refuse.ensures, c.refusal_of.ensures))

@@ -1,6 +1,8 @@
 -- `readers::end` meets its contract: each way through it is a lemma of Concluding.
+use mathlib.Core.Path.{refl}
 use native.Mathlib.Omega.{arith}
-use Rattle.compiler.proofs.Arms.{but_end, not_end}
+use Rattle.text.specs.declared.tokens.Token.TheVariants.{End}
+use Rattle.compiler.proofs.Arms.{other_than}
 use Rattle.compiler.proofs.Concluding.{ended_inside, ended_ends, ended_refuses, end_fits, end_starts, rest_fits}
 use Rattle.compiler.proofs.readers.end.Goals as goal
 
@@ -59,6 +61,5 @@ returns-in-End c = ended_ends _ _ c.if-e-ne0.false _
 pub returns-in_default : goal.returns-in_default
 returns-in_default c =
     ended_refuses _ _ c.if-e-ne0.false _
-    c.next-r.ensures (not_end c.next-r.result.token
-    (but_end _ c.in_default.not-End)) _
+    c.next-r.ensures (other_than End refl c.next-r.result.token c.in_default.not-End) _
     (simp (c.refuse-in_default.ensures, c.refusal_of.ensures))
