@@ -10,9 +10,9 @@ use Rattle.meaning.specs.Names.{key}
 use Rattle.meaning.specs.Sets.{meeting, union_of}
 use Rattle.meaning.proofs.SetLaws.{both_decide}
 use Rattle.text.proofs.Determined.{both_equal}
+use Rattle.std.specs.Prelude.{Option}
 use Rattle.table.specs.declared.numbers.Operation.{Operation}
 use Rattle.table.specs.declared.numbers.Position.{Position}
-use Rattle.table.specs.declared.names.Found.{Found}
 use Rattle.table.specs.declared.cells.Table.{Table}
 use Rattle.table.specs.Cells.{zeros, spellings}
 use Rattle.table.specs.Following.{positions_with, found_in}
@@ -41,7 +41,7 @@ pub permission_determined : (positions : ℕ) (operations : List Operation) (o :
     → r ≡ positions_with (take positions operations) o.0 → r' ≡ positions_with (take positions operations) o.0 → r ≡ r'
 permission_determined positions operations o r r' = both_equal
 
-pub find_determined : (names : ℕ) (lengths bytes name : List ℕ) (r r' : Found)
+pub find_determined : (names : ℕ) (lengths bytes name : List ℕ) (r r' : Option Operation)
     → r ≡ found_in (take names (spellings lengths bytes)) (key name)
     → r' ≡ found_in (take names (spellings lengths bytes)) (key name)
     → r ≡ r'

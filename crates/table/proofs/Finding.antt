@@ -12,7 +12,7 @@ use Rattle.meaning.specs.Names.{Name, key, same}
 use Rattle.meaning.specs.Operations.{holds, number_of}
 use Rattle.meaning.proofs.OperationLaws.{holds_append}
 use Rattle.meaning.proofs.NumberLaws.{number_append}
-use Rattle.table.specs.declared.names.Found.TheVariants.{At, Nowhere}
+use Rattle.std.specs.Prelude.{Some, None}
 use Rattle.table.specs.Following.{found_in}
 
 first_here : (ns : List Name) (k : Name) (i : ℕ) → i < length ns
@@ -38,13 +38,13 @@ module _ (ns : List Name) (k : Name) where
     unfolding holds
     one_more_searched h other = (omega arith, rw (add-one i, take-suc ns i [] h, holds_append, u.1, other))
 
-    pub found_here : i < length ns → same (key (get_or ns i [])) k ≡ true → At (record { 0 = i }) ≡ found_in ns k
+    pub found_here : i < length ns → same (key (get_or ns i [])) k ≡ true → Some (record { 0 = i }) ≡ found_in ns k
     unfolding found_in
     found_here h here =
         let first = first_here ns k i h u.1 here in
         rw (first.0, first.1)
 
-    pub found_nowhere : length ns ≤ i → Nowhere ≡ found_in ns k
+    pub found_nowhere : length ns ≤ i → None ≡ found_in ns k
     unfolding found_in
     found_nowhere h =
         let none : holds ns k ≡ false = rw (take_all i ns h) at u.1 in

@@ -12,19 +12,20 @@ use Rattle.meaning.specs.Names.{Name, key}
 use Rattle.meaning.specs.Operations.{holds, number_of}
 use Rattle.meaning.proofs.SetLaws.{below_or_not}
 use Rattle.text.specs.Tokens.{well_formed}
-use Rattle.table.specs.declared.names.Found.TheVariants.{At, Nowhere}
+use Rattle.std.specs.Prelude.{Some, None, is_none}
+use Rattle.table.specs.declared.numbers.Operation.{Operation}
 use Rattle.table.specs.Cells.{spellings}
 use Rattle.table.specs.Following.{found_in}
-use Rattle.table.specs.Tests.{is_new, fresh_test, used_test, zero_test, zeros_test, name_test, name_at_test}
+use Rattle.table.specs.Tests.{fresh_test, used_test, zero_test, zeros_test, name_test, name_at_test}
 use Rattle.table.proofs.Passing.{each_says, each_said}
 use Rattle.table.proofs.Spellings.{spelling_at}
 
 -- a name that is found nowhere is one that the list does not hold
-new_not_held : (ns : List Name) (k : Name) → is_new (found_in ns k) ≡ not (holds ns k)
+new_not_held : (ns : List Name) (k : Name) → is_none (found_in ns k) ≡ not (holds ns k)
 unfolding found_in
 new_not_held ns k = go (holds ns k)
   where
-    go : (t : Bool) → is_new (cond t (At (record { 0 = number_of ns k })) Nowhere) ≡ not t
+    go : (t : Bool) → is_none {T = Operation} (cond t (Some (record { 0 = number_of ns k })) None) ≡ not t
     go true = refl
     go false = refl
 
@@ -33,7 +34,7 @@ pub fresh_says : (name : Name) (before : List Name)
 unfolding fresh_test
 fresh_says name before = (
   λ t.
-      let both = (and-eq-true_iff (well_formed name) (is_new (found_in before (key name)))).0 t in
+      let both = (and-eq-true_iff (well_formed name) (is_none (found_in before (key name)))).0 t in
       (both.0, not-true _ (sym (new_not_held before (key name)) ∙ both.1)),
   λ says. rw (says.0, new_not_held before (key name), says.1),
 )

@@ -16,7 +16,7 @@ use Rattle.table.specs.Linking.{linked}
 -- what the loop keeps: `whole` is what it is to make, `out` are the rows so far, `rest` is left of the set, p rows are passed
 abbrev pub Linking : List ℕ → ℕ → List ℕ → ℕ → ℕ → Type 0
 Linking whole first out rest p =
-    (length out ≡ 64) × (p ≤ 64) × (whole ≡ take p out ++ linked (drop p out) rest first)
+    (p ≤ length out) × (whole ≡ take p out ++ linked (drop p out) rest first)
 
 -- row p is done: v is what `linked` puts there
 row_linked : (out : List ℕ) (p rest first v : ℕ) → p < length out
@@ -34,14 +34,12 @@ row_linked out p rest first v h e =
       e,
     )
 
-pub turn_linked : (whole out out' : List ℕ) (p rest first v : ℕ) → p < 64 → Linking whole first out rest p
+pub turn_linked : (whole out out' : List ℕ) (p rest first v : ℕ) → p < length out → Linking whole first out rest p
     → v ≡ cond (mem 0 rest) (bit_or (get_or out p 0) first) (get_or out p 0) → out' ≡ set out p v
     → Linking whole first out' (rest / 2) (p + 1)
 turn_linked whole out out' p rest first v h i e s =
-    rw s (simp length-set i.0, omega arith, i.2 ∙ row_linked out p rest first v (omega arith) e)
+    rw s (simp length-set (omega arith), i.1 ∙ row_linked out p rest first v h e)
 
-pub all_linked : (whole out : List ℕ) (p rest first : ℕ) → 64 ≤ p → Linking whole first out rest p → out ≡ whole
+pub all_linked : (whole out : List ℕ) (p rest first : ℕ) → length out ≤ p → Linking whole first out rest p → out ≡ whole
 unfolding linked
-all_linked whole out p rest first h i =
-    let past : length out ≤ p = omega arith in
-    rw (i.2, take_all p out past, drop_of_length-le out past, append-nil)
+all_linked whole out p rest first past i = rw (i.1, take_all p out past, drop_of_length-le out past, append-nil)

@@ -10,13 +10,13 @@ use native.Mathlib.Omega.{arith}
 use borrow.Author.Tests.{eqb-true, eq-eqb}
 use lib.Bits.{bit_or, bit_and, or_zero_r}
 use lib.Dec.{eqb}
-use lib.ListN.{length, take, drop, get_or}
+use lib.ListN.{length, drop, get_or, drop_of_length-le}
 use lib.Pow.{pow-lt, pow_pos}
 use Rattle.meaning.specs.Sets.{mem, In}
 use Rattle.meaning.proofs.SetLaws.{none_in, in_single, in_union, in_shared, same_sets, union_assoc, in_below}
 use Rattle.table.specs.declared.numbers.Operation.{Operation}
 use Rattle.table.specs.Tests.{placed_in}
-use Rattle.table.proofs.Repeats.{here_and_behind, nothing_from_here}
+use Rattle.table.proofs.Repeats.{here_and_behind}
 
 -- bit o, as the program shifts it
 pub bit_shifted : (o : ℕ) → o < 64 → 1 * 2 ^ o % 18446744073709551616 ≡ 2 ^ o
@@ -39,18 +39,18 @@ placed_in_told (x ∷ os) z o zero l e = (in_union o (2 ^ x.0) (placed_in os)).1
 placed_in_told (x ∷ os) z o (suc p) l e = (in_union o (2 ^ x.0) (placed_in os)).1 (inr (placed_in_told os z o p (le_of_suc-le-suc l) e))
 
 -- what the loop keeps
-abbrev pub Gathered : List Operation → ℕ → ℕ → ℕ → Type 0
-Gathered operations n p out = placed_in (take n operations) ≡ bit_or out (placed_in (drop p (take n operations)))
+abbrev pub Gathered : List Operation → ℕ → ℕ → Type 0
+Gathered operations p out = placed_in operations ≡ bit_or out (placed_in (drop p operations))
 
-module _ (operations : List Operation) (n p out : ℕ) (i : Gathered operations n p out) where
-  pub one_more_gathered : length operations ≡ 64 → n ≤ 64 → p < n
-      → Gathered operations n (p + 1) (bit_or out (2 ^ (get_or operations p (record { 0 = 0 })).0))
+module _ (operations : List Operation) (p out : ℕ) (i : Gathered operations p out) where
+  pub one_more_gathered : p < length operations
+      → Gathered operations (p + 1) (bit_or out (2 ^ (get_or operations p (record { 0 = 0 })).0))
   unfolding placed_in
-  one_more_gathered all few used = i ∙ rw (here_and_behind operations n p all few used) (sym (union_assoc out _ _))
+  one_more_gathered used = i ∙ rw (here_and_behind operations p used) (sym (union_assoc out _ _))
 
-  pub all_gathered : n ≤ p → out ≡ placed_in (take n operations)
+  pub all_gathered : length operations ≤ p → out ≡ placed_in operations
   unfolding placed_in
-  all_gathered past = sym (i ∙ rw (nothing_from_here operations n p past, or_zero_r out))
+  all_gathered past = sym (i ∙ rw (drop_of_length-le operations past, or_zero_r out))
 
 -- the set of the first k has all below k
 in_first : (k p : ℕ) → p < k → In p (2 ^ k - 1)

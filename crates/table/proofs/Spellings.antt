@@ -1,12 +1,12 @@
 -- The names in a table's cells: there is one for each length, and name i has its bytes from byte 16 i on. A name whose length
 -- runs past the last byte ends there.
-use mathlib.Core.Path.{◌≡◌, refl, sym, ap}
+use mathlib.Core.Path.{◌≡◌, refl, ap}
 use mathlib.Core.List.{List, [], ◌∷◌}
 use Prim.Native.Nat.{ℕ, zero, suc, ◌+◌, ◌-◌, ◌*◌, ◌<◌, min}
 use native.Mathlib.Nat.{le_of_suc-le-suc}
 use native.Mathlib.Omega.{arith}
 use lib.ListN.{length, take, drop, get_or, length-drop}
-use lib.Seq.{drop-drop, get_or-take}
+use lib.Seq.{drop-drop}
 use Rattle.table.specs.Cells.{spellings}
 use Rattle.table.proofs.Taking.{take_capped}
 
@@ -24,12 +24,11 @@ spelling_at (l ∷ lengths) bytes (suc i) h =
     let place : 16 * suc i ≡ 16 + 16 * i = omega arith in
     rw (place, ← (drop-drop (16 * i) 16 bytes)) (spelling_at lengths (drop 16 bytes) i (le_of_suc-le-suc h))
 
--- the bytes of name i, one of the first `names`, as the program reads them
-pub spelling_read : (names i to : ℕ) (lengths bytes : List ℕ) → length lengths ≡ 32 → length bytes ≡ 512 → i < names → i < 32
+-- the bytes of name i, as the program reads them
+pub spelling_read : (i to : ℕ) (lengths bytes : List ℕ) → length lengths ≡ 32 → length bytes ≡ 512 → i < 32
     → to ≡ min (16 * i + get_or lengths i 0) 512
-    → get_or (take names (spellings lengths bytes)) i [] ≡ take (to - 16 * i) (drop (16 * i) bytes)
-spelling_read names i to lengths bytes all every used there e =
+    → take (to - 16 * i) (drop (16 * i) bytes) ≡ get_or (spellings lengths bytes) i []
+spelling_read i to lengths bytes all every there e =
     let n = get_or lengths i 0 in
     let count : to - 16 * i ≡ min n (length (drop (16 * i) bytes)) = simp length-drop (omega arith) in
-    rw (get_or-take names (spellings lengths bytes) i [] used, spelling_at lengths bytes i (omega arith), count)
-    (sym (take_capped n (drop (16 * i) bytes)))
+    rw (spelling_at lengths bytes i (omega arith), count) (take_capped n (drop (16 * i) bytes))

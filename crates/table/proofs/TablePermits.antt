@@ -19,7 +19,7 @@ use Rattle.meaning.proofs.SetLaws.{none_in, same_sets}
 use Rattle.meaning.proofs.Numbering.{numbered_from_the_left}
 use Rattle.meaning.proofs.Heart.{permits_begins}
 use Rattle.table.specs.Following.{positions_with, permission_set, found_in, permission_found, permission_of, table_permits}
-use Rattle.table.specs.declared.names.Found.TheVariants.{At, Nowhere}
+use Rattle.std.specs.Prelude.{Some, None}
 use Rattle.table.specs.Rules.{padded, operations_of, table_of}
 use Rattle.table.specs.Promises.{Limited, RulesTablePermits}
 use Rattle.table.proofs.NameNumbers.{length_operations, operation_is_key}
@@ -82,7 +82,7 @@ module _ (e : Expr) where
   permission_agrees limits k = rw (names_of_table e limits) (go (holds (distinct (names e)) k) refl)
     where
       go : (t : Bool) → holds (distinct (names e)) k ≡ t
-          → permission_found (table_of e) (cond t (At (record { 0 = number_of (distinct (names e)) k })) Nowhere) ≡ permission e k
+          → permission_found (table_of e) (cond t (Some (record { 0 = number_of (distinct (names e)) k })) None) ≡ permission e k
       go true held = rw (operations_in_use e) (same_sets _ (permission e k) (in_permission_by_number k held))
       go false unheld = sym (permission_of_none k unheld)
 

@@ -5,8 +5,7 @@ use Rattle.meaning.specs.Operations.{holds, number_of}
 use Rattle.meaning.specs.Following.{permits}
 use Rattle.table.specs.declared.numbers.Operation.{Operation}
 use Rattle.table.specs.declared.cells.Table.{Table}
-use Rattle.table.specs.declared.names.Found.{Found}
-use Rattle.table.specs.declared.names.Found.TheVariants.{At, Nowhere}
+use Rattle.std.specs.Prelude.{Option, Some, None}
 use Rattle.table.specs.Cells.{names_of}
 
 -- the positions, in a list of their operations, of operation o
@@ -23,13 +22,13 @@ abbrev pub name_in : Table → ℕ → Name
 name_in t o = key (get_or (names_of t) o [])
 
 -- the operation of the name of key k
-unfoldable pub found_in : List Name → Name → Found
-found_in ns k = cond (holds ns k) (At (record { 0 = number_of ns k })) Nowhere
+unfoldable pub found_in : List Name → Name → Option Operation
+found_in ns k = cond (holds ns k) (Some (record { 0 = number_of ns k })) None
 
 -- the permission set of what was found; an operation that is not there has no position
-abbrev pub permission_found : Table → Found → ℕ
-permission_found t (At o) = permission_set t o.0
-permission_found t Nowhere = 0
+abbrev pub permission_found : Table → Option Operation → ℕ
+permission_found t (Some o) = permission_set t o.0
+permission_found t None = 0
 
 unfoldable pub permission_of : Table → Name → ℕ
 permission_of t k = permission_found t (found_in (names_of t) k)

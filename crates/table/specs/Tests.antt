@@ -1,12 +1,11 @@
 -- The clauses of soundness as tests, one for each private function of the program. Nothing here needs to be believed: the contract
 -- of `is_sound` speaks of Soundness.antt alone.
-use Rattle.std.specs.Prelude.{◌≡◌, Bool, true, false, cond, not, ◌&&◌, List, [], ◌∷◌, ℕ, zero, suc, ◌+◌, ◌-◌, ◌*◌, ◌^◌, ◌≤◌, ◌<◌, eqb, ltb, leb, length, take, drop, get_or}
+use Rattle.std.specs.Prelude.{Bool, true, cond, not, ◌&&◌, List, [], ◌∷◌, ℕ, zero, suc, ◌+◌, ◌-◌, ◌*◌, ◌^◌, ◌<◌, eqb, ltb, leb, length, take, drop, get_or}
 use Rattle.std.specs.Int.Bits.{bit_or, bit_and}
 use Rattle.meaning.specs.Names.{Name, key}
 use Rattle.text.specs.Tokens.{well_formed}
 use Rattle.table.specs.declared.numbers.Operation.{Operation}
-use Rattle.table.specs.declared.names.Found.{Found}
-use Rattle.table.specs.declared.names.Found.TheVariants.{At, Nowhere}
+use Rattle.std.specs.Prelude.{is_none}
 use Rattle.table.specs.declared.cells.Table.{Table}
 use Rattle.table.specs.Cells.{spellings}
 use Rattle.table.specs.Following.{found_in}
@@ -48,9 +47,9 @@ operation_at_test os n names p = operation_test (get_or os p (record { 0 = 0 }))
 abbrev pub operations_test : List Operation → ℕ → ℕ → Bool
 operations_test os n names = each (operation_at_test os n names) 0 64
 
--- at most 64 positions, with operations that a set of 64 bits has room for
-abbrev pub BitsSuffice : List Operation → ℕ → Type 0
-BitsSuffice os n = (n ≤ 64) × ((p : ℕ) → p < n → (get_or os p (record { 0 = 0 })).0 < 64)
+-- operations that a set of 64 bits has room for
+abbrev pub BitsSuffice : List Operation → Type 0
+BitsSuffice os = (p : ℕ) → p < length os → (get_or os p (record { 0 = 0 })).0 < 64
 
 -- the operations of a list, as a set: operation o is bit o
 unfoldable pub placed_in : List Operation → ℕ
@@ -61,10 +60,6 @@ placed_in (x ∷ xs) = bit_or (2 ^ x.0) (placed_in xs)
 unfoldable pub each_placed_test : List Operation → ℕ → ℕ → Bool
 each_placed_test os n names = eqb (bit_and (placed_in (take n os)) (2 ^ names - 1)) (2 ^ names - 1)
 
--- the cells that names are kept in: 32 lengths and 512 bytes
-abbrev pub NameCells : List ℕ → List ℕ → Type 0
-NameCells lengths bytes = (length lengths ≡ 32) × (length bytes ≡ 512)
-
 -- byte k is zero
 abbrev pub zero_test : List ℕ → ℕ → Bool
 zero_test bytes k = eqb (get_or bytes k 0) 0
@@ -72,13 +67,9 @@ zero_test bytes k = eqb (get_or bytes k 0) 0
 abbrev pub zeros_test : List ℕ → ℕ → ℕ → Bool
 zeros_test bytes from to = each (zero_test bytes) from to
 
-abbrev pub is_new : Found → Bool
-is_new (At o) = false
-is_new Nowhere = true
-
 -- a name that is well formed, and not among those before it
 unfoldable pub fresh_test : Name → List Name → Bool
-fresh_test name before = well_formed name && is_new (found_in before (key name))
+fresh_test name before = well_formed name && is_none (found_in before (key name))
 
 -- name i, of n bytes: in use, or not
 abbrev pub used_test : ℕ → ℕ → ℕ → List ℕ → List ℕ → Bool

@@ -5,7 +5,7 @@ ghost use Rattle.table.specs.Cells.{zeros};
 use crate::numbers::Operation;
 
 // The counts, the start set, each position's operation and row, each name's length and bytes (name i from byte 16 i on), and
-// the mark; zeros in every unused cell.
+// the mark; zeros in every unused cell. C sees the same cells, so they are arrays and counts, and the mark is a number.
 #[repr(C)]
 #[derive(Clone, Copy)]
 pub struct Table {
@@ -23,18 +23,14 @@ pub struct Table {
 pub fn table_of_zeros() -> Table
     ensures { result ≡ zeros }
 {
-    let operations = [Operation(0); 64];
-    let rows = [0u64; 64];
-    let lengths = [0u8; 32];
-    let bytes = [0u8; 512];
     Table {
         positions: 0,
         names: 0,
         start: 0,
-        operations: operations,
-        rows: rows,
-        lengths: lengths,
-        bytes: bytes,
+        operations: [Operation(0); 64],
+        rows: [0; 64],
+        lengths: [0; 32],
+        bytes: [0; 512],
         mark: 0,
     }
 }

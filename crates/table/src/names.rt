@@ -1,55 +1,41 @@
-// The names of a table: finding an operation by its name.
-ghost use Rattle.std.specs.Prelude.{◌≡◌, ◌+◌, ◌≤◌, min, take};
+// The names of a table: an operation's name, and finding an operation by its name.
+ghost use Rattle.std.specs.Prelude.{◌≡◌, ◌<◌, get_or, take, []};
 ghost use Rattle.meaning.specs.Names.{key};
-ghost use Rattle.table.specs.Cells.{spellings};
+ghost use Rattle.table.specs.Cells.{spellings, names_of};
 ghost use Rattle.table.specs.Following.{found_in};
-ghost use Rattle.table.specs.Tests.{NameCells};
 
+use crate::cells::Table;
 use crate::numbers::Operation;
 use text::tokens::same_name;
 
-// Whether a name is among the names of a table, and of which operation.
-#[derive(Clone, Copy)]
-pub enum Found {
-    At(Operation),
-    Nowhere,
-}
-
-// Where n bytes end that start at `from`, of 512.
-fn end_of(from: usize, n: u8) -> usize
-    requires { from ≤ 512 }
-    ensures { result ≡ min (from + n) 512 }
-{
-    let to = from + n as usize;
-    if to < 512 {
-        return to;
-    }
-    512
-}
-
-// As `find`, over cells that are lent, so that none is copied.
-pub(crate) fn find_among(names: usize, lengths: &[u8], bytes: &[u8], name: &[u8]) -> Found
-    requires { NameCells lengths.now bytes.now }
-    ensures { result ≡ found_in (take names (spellings lengths.now bytes.now)) (key name.now) }
-{
-    let mut i: usize = 0;
-    while i < 32 {
-        if names <= i {
-            return Found::Nowhere;
-        }
+impl Table {
+    // The bytes of name i, in use or not. A length that runs past the last byte ends there.
+    fn spelling(&self, i: usize) -> &[u8]
+        requires { i < 32 }
+        ensures { result.now ≡ get_or (spellings self.now.lengths self.now.bytes) i [] }
+    {
         let from = 16 * i;
-        let to = end_of(from, lengths[i]);
-        if same_name(&bytes[from..to], name) {
-            return Found::At(Operation(i as u8));
-        }
-        i += 1;
+        let to = (from + self.lengths[i] as usize).min(512);
+        &self.bytes[from..to]
     }
-    Found::Nowhere
-}
 
-// The operation of a name, among the first `names` there are. A length that runs past the last byte ends there.
-pub fn find(names: usize, lengths: [u8; 32], bytes: [u8; 512], name: &[u8]) -> Found
-    ensures { result ≡ found_in (take names (spellings lengths bytes)) (key name.now) }
-{
-    find_among(names, &lengths, &bytes, name)
+    // The operation of a name, among the first n there are.
+    pub(crate) fn find_among(&self, n: usize, name: &[u8]) -> Option<Operation>
+        ensures { result ≡ found_in (take n (spellings self.now.lengths self.now.bytes)) (key name.now) }
+    {
+        for i in 0..n.min(32) {
+            if same_name(self.spelling(i), name) {
+                return Some(Operation(i as u8));
+            }
+        }
+        None
+    }
+
+    // The operation of a name.
+    #[tactic(auto, unfolding(crate::specs::Cells::names_of))]
+    pub fn find(&self, name: &[u8]) -> Option<Operation>
+        ensures { result ≡ found_in (names_of self.now) (key name.now) }
+    {
+        self.find_among(self.names, name)
+    }
 }

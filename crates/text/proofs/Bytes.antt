@@ -3,9 +3,10 @@ use mathlib.Core.Path.{◌≡◌}
 use Prim.Native.Nat.{ℕ, ◌≤◌}
 use native.Mathlib.Omega.{arith}
 use borrow.Author.Tests.{le-leb, lt-leb, ne_eqb}
-use Rattle.text.specs.Classes.{bad, class_of}
+use Rattle.text.specs.Classes.{class_of}
+use Rattle.text.specs.declared.classes.Class.TheVariants.{Bad}
 
-pub high_byte_bad : (b : ℕ) → 128 ≤ b → class_of b ≡ bad
+pub high_byte_bad : (b : ℕ) → 128 ≤ b → class_of b ≡ Bad
 unfolding class_of
 high_byte_bad b h =
     simp (

@@ -5,13 +5,14 @@ use mathlib.Core.Bool.{Bool}
 use mathlib.Core.List.{List}
 use Prim.Native.Nat.{ℕ}
 use Rattle.text.specs.Classes.{class_of}
+use Rattle.text.specs.declared.classes.Class.{Class}
 use Rattle.text.specs.Tokens.{same_name, next_token, well_formed}
 use Rattle.text.specs.declared.tokens.Read.{Read}
 
 pub both_equal : {A : Type 0} {x r r' : A} → r ≡ x → r' ≡ x → r ≡ r'
 both_equal e e' = e ∙ sym e'
 
-pub class_determined : (b r r' : ℕ) → r ≡ class_of b → r' ≡ class_of b → r ≡ r'
+pub class_determined : (b : ℕ) (r r' : Class) → r ≡ class_of b → r' ≡ class_of b → r ≡ r'
 class_determined b r r' = both_equal
 
 pub same_name_determined : (m n : List ℕ) (r r' : Bool) → r ≡ same_name m n → r' ≡ same_name m n → r ≡ r'

@@ -5,7 +5,7 @@ use mathlib.Core.List.{[], ◌∷◌}
 use lib.ListN.{replicate}
 use Rattle.meaning.specs.Names.{key, same}
 use Rattle.text.specs.Classes.{class_of}
-use Rattle.text.specs.Tokens.{span, word_token, sign_token, token_from, next_token}
+use Rattle.text.specs.Tokens.{span, word_token, token_from, next_token}
 use Rattle.text.specs.declared.tokens.Token.TheVariants.{Semicolon, Path, End, Name, TextEnd, Bad, Long}
 
 -- "path a"
@@ -34,16 +34,16 @@ seventeen_letters = refl
 
 -- a newline and ";a": a sign takes one byte
 newline_semicolon : next_token (10 ∷ 59 ∷ 97 ∷ []) ≡ record { token = Semicolon; start = 1; used = 2 }
-unfolding next_token token_from span sign_token class_of
+unfolding next_token token_from span class_of
 newline_semicolon = refl
 
 -- " 3": a digit starts no token
 blank_digit : next_token (32 ∷ 51 ∷ []) ≡ record { token = Bad; start = 1; used = 2 }
-unfolding next_token token_from span sign_token class_of
+unfolding next_token token_from span class_of
 blank_digit = refl
 
 byte_200 : next_token (200 ∷ []) ≡ record { token = Bad; start = 0; used = 1 }
-unfolding next_token token_from span sign_token class_of
+unfolding next_token token_from span class_of
 byte_200 = refl
 
 -- nothing, and blanks alone

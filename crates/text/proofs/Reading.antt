@@ -1,15 +1,17 @@
 -- What a caller needs to know of `next_token`: where its token starts, how far it reaches, and that it moves on unless the text
 -- ends. The idea: behind the blanks stands nothing, or a token that takes one byte or more (`Moved`); each fact follows from that.
 use mathlib.Core.Path.{◌≡◌, refl, ap, subst}
-use mathlib.Core.Bool.{Bool, true, false, cond}
+use mathlib.Core.Bool.{Bool, true, false, cond, false≢true}
 use mathlib.Core.List.{List, [], ◌∷◌}
 use Prim.Native.Nat.{ℕ, suc, ◌+◌, ◌≤◌, ◌<◌}
 use native.Mathlib.Omega.{arith}
 use borrow.Author.Tests.{ltb-false}
-use lib.Dec.{eqb, ltb}
+use lib.Dec.{ltb}
 use lib.ListN.{length, take, drop, length-drop}
 use lib.Seq.{length-take-le}
-use Rattle.text.specs.Classes.{letter, semicolon, plus, asterisk, opening, closing, class_of}
+use Rattle.text.specs.Classes.{class_of, starts_name}
+use Rattle.text.specs.declared.classes.Class.{Class}
+use Rattle.text.specs.declared.classes.Class.TheVariants.{Bad as BadByte, Blank, Letter, Digit, Semicolon as SemicolonSign, Plus as PlusSign, Asterisk, Open as OpenSign, Close as CloseSign}
 use Rattle.text.specs.Tokens.{span, blank_byte, name_byte, path_word, end_word, same_name, word_token, sign_token, token_from, next_token}
 use Rattle.text.specs.declared.tokens.Token.{Token}
 use Rattle.text.specs.declared.tokens.Token.TheVariants.{Semicolon, Plus, Star, Open, Close, Path, End, Name, TextEnd, Bad, Long}
@@ -36,14 +38,28 @@ choice_has P true f g = f refl
 choice_has P false f g = g refl
 
 -- a sign is one of five, or none
-pub sign_has : (P : Token → Type 0) → P Semicolon → P Plus → P Star → P Open → P Close → P Bad → (c : ℕ) → P (sign_token c)
-unfolding sign_token
-sign_has P a b d e f g c =
-    choice_has P (eqb c semicolon) (λ _. a) λ _.
-    choice_has P (eqb c plus) (λ _. b) λ _.
-    choice_has P (eqb c asterisk) (λ _. d) λ _.
-    choice_has P (eqb c opening) (λ _. e) λ _.
-    choice_has P (eqb c closing) (λ _. f) (λ _. g)
+pub sign_has : (P : Token → Type 0) → P Semicolon → P Plus → P Star → P Open → P Close → P Bad → (c : Class) → P (sign_token c)
+sign_has P a b d e f g SemicolonSign = a
+sign_has P a b d e f g PlusSign = b
+sign_has P a b d e f g Asterisk = d
+sign_has P a b d e f g OpenSign = e
+sign_has P a b d e f g CloseSign = f
+sign_has P a b d e f g BadByte = g
+sign_has P a b d e f g Blank = g
+sign_has P a b d e f g Letter = g
+sign_has P a b d e f g Digit = g
+
+-- what starts a name is a letter, and goes on with one
+pub starts_letter : (c : Class) → starts_name c ≡ true → c ≡ Letter
+starts_letter Letter e = refl
+starts_letter BadByte e = absurd (false≢true e)
+starts_letter Blank e = absurd (false≢true e)
+starts_letter Digit e = absurd (false≢true e)
+starts_letter SemicolonSign e = absurd (false≢true e)
+starts_letter PlusSign e = absurd (false≢true e)
+starts_letter Asterisk e = absurd (false≢true e)
+starts_letter OpenSign e = absurd (false≢true e)
+starts_letter CloseSign e = absurd (false≢true e)
 
 word_takes : (w : List ℕ) → Takes (length w) (word_token w)
 unfolding word_token
@@ -61,9 +77,9 @@ record Moved (k : ℕ) (left : List ℕ) (r : Read) : Type 0 where
   reach : r.used ≡ k + bytes
   takes : Takes bytes r.token
 
-letter_counts : (b : ℕ) (s : List ℕ) → eqb (class_of b) letter ≡ true → 1 ≤ span name_byte (b ∷ s)
+letter_counts : (b : ℕ) (s : List ℕ) → starts_name (class_of b) ≡ true → 1 ≤ span name_byte (b ∷ s)
 letter_counts b s e =
-    let counted : span name_byte (b ∷ s) ≡ suc (span name_byte s) = span_counts name_byte b s (rw e) in
+    let counted : span name_byte (b ∷ s) ≡ suc (span name_byte s) = span_counts name_byte b s (rw (starts_letter (class_of b) e)) in
     omega arith
 
 from_moved : (k b : ℕ) (s : List ℕ) → Moved k (b ∷ s) (token_from k (b ∷ s))
@@ -71,7 +87,7 @@ unfolding token_from
 from_moved k b s =
     let n = span name_byte (b ∷ s) in
     let fits = span_within name_byte (b ∷ s) in
-    choice_has (Moved k (b ∷ s)) (eqb (class_of b) letter)
+    choice_has (Moved k (b ∷ s)) (starts_name (class_of b))
     (λ e.
     record {
       bytes = n;

@@ -6,16 +6,17 @@ use mathlib.Core.Bool.{Bool, true, false, cond, and-true, and-false, false≢tru
 use mathlib.Core.List.{List, [], ◌∷◌}
 use Prim.Native.Nat.{ℕ, suc, ◌+◌, ◌<◌}
 use native.Mathlib.Omega.{arith}
-use borrow.Author.Tests.{eqb-true, eqb-false, eq-eqb, ne_eqb}
-use lib.Dec.{eqb}
+use borrow.Author.Tests.{eq-eqb, ne_eqb}
 use lib.ListN.{length, take, drop, get_or}
 use lib.Seq.{length-take-le, take-length}
-use Rattle.text.specs.Classes.{letter, class_of}
+use Rattle.text.specs.Classes.{class_of, starts_name}
+use Rattle.text.specs.declared.classes.Class.{Class}
+use Rattle.text.specs.declared.classes.Class.TheVariants.{Letter}
 use Rattle.text.specs.Tokens.{span, blank_byte, name_byte, word_token, sign_token, word_read, token_from, next_token, is_name, well_formed}
 use Rattle.text.specs.declared.tokens.Token.TheVariants.{Name}
 use Rattle.text.proofs.Spans.{span_counts, span_ends, span_within}
 use Rattle.text.proofs.Ways.{way_word, way_sign}
-use Rattle.text.proofs.Reading.{sign_has, start_is_blanks, name_reaches}
+use Rattle.text.proofs.Reading.{sign_has, starts_letter, start_is_blanks, name_reaches}
 
 -- a run is a run of its own bytes
 span_of_run : (test : ℕ → Bool) (s : List ℕ) → span test (take (span test s) s) ≡ span test s
@@ -28,11 +29,11 @@ span_of_run test (b ∷ s) = go (test b) refl (span_of_run test s)
     go true e rest = rw e (ap suc rest)
     go false e rest = refl
 
-sign_no_name : (c : ℕ) → is_name (sign_token c) ≡ false
+sign_no_name : (c : Class) → is_name (sign_token c) ≡ false
 sign_no_name = sign_has (λ t. is_name t ≡ false) refl refl refl refl refl refl
 
 -- bytes that start with a letter are read from there, as a word
-letter_read : (b : ℕ) (r : List ℕ) → class_of b ≡ letter → next_token (b ∷ r) ≡ word_read 0 (span name_byte (b ∷ r)) (b ∷ r)
+letter_read : (b : ℕ) (r : List ℕ) → class_of b ≡ Letter → next_token (b ∷ r) ≡ word_read 0 (span name_byte (b ∷ r)) (b ∷ r)
 letter_read b r starts =
     let w = b ∷ r in
     let m = span name_byte w in
@@ -40,25 +41,25 @@ letter_read b r starts =
     sym (way_word w 0 no-blank w (class_of b) m (word_token (take m w)) refl (omega arith) refl starts refl refl)
 
 -- so they are well formed if the word is all of them and a name
-pub whole_word : (n : List ℕ) → 0 < length n → eqb (class_of (get_or n 0 0)) letter ≡ true → span name_byte n ≡ length n
+pub whole_word : (n : List ℕ) → 0 < length n → starts_name (class_of (get_or n 0 0)) ≡ true → span name_byte n ≡ length n
     → well_formed n ≡ is_name (word_token n)
 unfolding well_formed
 whole_word [] some starts all = absurd (omega arith)
 whole_word (b ∷ r) some starts all =
     let w = b ∷ r in
-    rw (letter_read b r (eqb-true (class_of b) letter starts), all, take-length w, eq-eqb (0 + length w) (length w) (omega arith))
+    rw (letter_read b r (starts_letter (class_of b) starts), all, take-length w, eq-eqb (0 + length w) (length w) (omega arith))
     (simp and-true)
 
-pub part_word : (n : List ℕ) → 0 < length n → eqb (class_of (get_or n 0 0)) letter ≡ true → (span name_byte n ≡ length n → ⊥)
+pub part_word : (n : List ℕ) → 0 < length n → starts_name (class_of (get_or n 0 0)) ≡ true → (span name_byte n ≡ length n → ⊥)
     → well_formed n ≡ false
 unfolding well_formed
 part_word [] some starts part = absurd (omega arith)
 part_word (b ∷ r) some starts part =
     let used = 0 + span name_byte (b ∷ r) in
-    rw (letter_read b r (eqb-true (class_of b) letter starts), ne_eqb used (length (b ∷ r)) (λ e. part (omega arith)), and-false)
+    rw (letter_read b r (starts_letter (class_of b) starts), ne_eqb used (length (b ∷ r)) (λ e. part (omega arith)), and-false)
 
 -- where no letter stands first, there is a blank, or a token that is no name
-pub no_letter_first : (n : List ℕ) → 0 < length n → eqb (class_of (get_or n 0 0)) letter ≡ false → well_formed n ≡ false
+pub no_letter_first : (n : List ℕ) → 0 < length n → starts_name (class_of (get_or n 0 0)) ≡ false → well_formed n ≡ false
 unfolding well_formed
 no_letter_first [] some other = absurd (omega arith)
 no_letter_first (b ∷ r) some other = go (blank_byte b) refl
@@ -70,12 +71,8 @@ no_letter_first (b ∷ r) some other = go (blank_byte b) refl
     go false e =
         let no-blank : 0 ≡ span blank_byte (b ∷ r) = sym (span_ends blank_byte b r e) in
         let sign = way_sign (b ∷ r) 0 no-blank (b ∷ r) (class_of b) (sign_token (class_of b)) refl (omega arith) refl
-        (eqb-false (class_of b) letter other) refl in
+        other refl in
         rw (← sign, sign_no_name (class_of b))
-
--- the same, of the class that was looked up
-pub not_a_letter_first : (n : List ℕ) (r : ℕ) → 0 < length n → r ≡ class_of (get_or n 0 0) → (r ≡ letter → ⊥) → false ≡ well_formed n
-not_a_letter_first n r some is other = sym (no_letter_first n some (rw (← is) (ne_eqb r letter other)))
 
 pub nothing_there : (n : List ℕ) → length n ≡ 0 → well_formed n ≡ false
 unfolding well_formed next_token token_from span
@@ -83,14 +80,14 @@ nothing_there [] none = refl
 nothing_there (b ∷ r) none = absurd (omega arith)
 
 -- a word that stands alone: a letter, and bytes of a name
-word_alone : (b : ℕ) (r : List ℕ) (n : ℕ) → class_of b ≡ letter → span name_byte r ≡ length r → word_token (b ∷ r) ≡ Name n
+word_alone : (b : ℕ) (r : List ℕ) (n : ℕ) → class_of b ≡ Letter → span name_byte r ≡ length r → word_token (b ∷ r) ≡ Name n
     → well_formed (b ∷ r) ≡ true
 word_alone b r n starts all word =
     let counted : span name_byte (b ∷ r) ≡ length (b ∷ r) = rw (span_counts name_byte b r (rw starts), all) in
     whole_word (b ∷ r) (omega arith) (rw starts) counted ∙ ap is_name word
 
 -- so is one that stands in front
-word_in_front : (b : ℕ) (s : List ℕ) (n : ℕ) → class_of b ≡ letter → word_token (take (span name_byte (b ∷ s)) (b ∷ s)) ≡ Name n
+word_in_front : (b : ℕ) (s : List ℕ) (n : ℕ) → class_of b ≡ Letter → word_token (take (span name_byte (b ∷ s)) (b ∷ s)) ≡ Name n
     → well_formed (take (span name_byte (b ∷ s)) (b ∷ s)) ≡ true
 word_in_front b s n starts word =
     let m = span name_byte s in
@@ -103,11 +100,11 @@ name_is_word : (k : ℕ) (left : List ℕ) (n : ℕ) → (token_from k left).tok
     → ((token_from k left).used ≡ k + span name_byte left) × (well_formed (take (span name_byte left) left) ≡ true)
 unfolding token_from
 name_is_word k [] n e = let z : ◌≡◌ {A = ℕ} 0 1 = cc in absurd (omega arith)
-name_is_word k (b ∷ s) n e = go (eqb (class_of b) letter) refl
+name_is_word k (b ∷ s) n e = go (starts_name (class_of b)) refl
   where
-    go : (t : Bool) → eqb (class_of b) letter ≡ t
+    go : (t : Bool) → starts_name (class_of b) ≡ t
         → ((token_from k (b ∷ s)).used ≡ k + span name_byte (b ∷ s)) × (well_formed (take (span name_byte (b ∷ s)) (b ∷ s)) ≡ true)
-    go true q = (rw q, word_in_front b s n (eqb-true (class_of b) letter q) (rw q at e))
+    go true q = (rw q, word_in_front b s n (starts_letter (class_of b) q) (rw q at e))
     go false q = absurd (false≢true (sym (sign_no_name (class_of b)) ∙ ap is_name (rw q at e)))
 
 pub name_well_formed : (s : List ℕ) (n : ℕ) → (next_token s).token ≡ Name n → well_formed (take n (drop (next_token s).start s)) ≡ true

@@ -1,57 +1,98 @@
 // The class of each byte: one table, read by the token reader.
 ghost use Rattle.std.specs.Prelude.{◌≡◌};
-ghost use Rattle.text.specs.Classes.{class_of, Tabled};
+ghost use Rattle.text.specs.Classes.{class_of, is_blank_class, starts_name, is_in_name, Tabled};
 
-// The classes, as the table has them.
-pub const BAD: u8 = 0;
+// What a byte is in a path text.
+#[derive(Clone, Copy, Debug, PartialEq, Eq)]
+pub enum Class {
+    Bad,
+    Blank,
+    Letter,
+    Digit,
+    Semicolon,
+    Plus,
+    Asterisk,
+    Open,
+    Close,
+}
 
-pub const BLANK: u8 = 1;
+impl Class {
+    pub(crate) fn is_blank(self) -> bool
+        ensures { result ≡ is_blank_class self }
+    {
+        matches!(self, Class::Blank)
+    }
 
-pub const LETTER: u8 = 2;
+    // A name starts with it.
+    pub(crate) fn starts_name(self) -> bool
+        ensures { result ≡ starts_name self }
+    {
+        matches!(self, Class::Letter)
+    }
 
-pub const DIGIT: u8 = 3;
+    // A name goes on with it.
+    pub(crate) fn is_in_name(self) -> bool
+        ensures { result ≡ is_in_name self }
+    {
+        matches!(self, Class::Letter | Class::Digit)
+    }
+}
 
-pub const SEMICOLON: u8 = 4;
+// The classes by one sign each, so that the table is a picture of the bytes.
+const X: Class = Class::Bad;
 
-pub const PLUS: u8 = 5;
+const B: Class = Class::Blank;
 
-pub const ASTERISK: u8 = 6;
+const L: Class = Class::Letter;
 
-pub const OPEN: u8 = 7;
+const D: Class = Class::Digit;
 
-pub const CLOSE: u8 = 8;
+const S: Class = Class::Semicolon;
+
+const P: Class = Class::Plus;
+
+const A: Class = Class::Asterisk;
+
+const O: Class = Class::Open;
+
+const C: Class = Class::Close;
 
 // The class of each byte below 128.
-const CLASSES: [u8; 128] = [
-    0, 0, 0, 0, 0, 0, 0, 0, 0, 1, 1, 0, 0, 1, 0, 0, 0, 0, 0, 0, 0, 0, 0, 0, 0, 0, 0, 0, 0, 0, 0, 0,
-    1, 0, 0, 0, 0, 0, 0, 0, 7, 8, 6, 5, 0, 0, 0, 0, 3, 3, 3, 3, 3, 3, 3, 3, 3, 3, 0, 4, 0, 0, 0, 0,
-    0, 2, 2, 2, 2, 2, 2, 2, 2, 2, 2, 2, 2, 2, 2, 2, 2, 2, 2, 2, 2, 2, 2, 2, 2, 2, 2, 0, 0, 0, 0, 0,
-    0, 2, 2, 2, 2, 2, 2, 2, 2, 2, 2, 2, 2, 2, 2, 2, 2, 2, 2, 2, 2, 2, 2, 2, 2, 2, 2, 0, 0, 0, 0, 0,
+const CLASSES: [Class; 128] = [
+    X, X, X, X, X, X, X, X, X, B, B, X, X, B, X, X, X, X, X, X, X, X, X, X, X, X, X, X, X, X, X, X,
+    B, X, X, X, X, X, X, X, O, C, A, P, X, X, X, X, D, D, D, D, D, D, D, D, D, D, X, S, X, X, X, X,
+    X, L, L, L, L, L, L, L, L, L, L, L, L, L, L, L, L, L, L, L, L, L, L, L, L, L, L, X, X, X, X, X,
+    X, L, L, L, L, L, L, L, L, L, L, L, L, L, L, L, L, L, L, L, L, L, L, L, L, L, L, X, X, X, X, X,
 ];
 
 // The table. It is laid out once for all the bytes that are looked up in it.
-pub(crate) fn classes() -> [u8; 128]
-    ensures { Tabled result }
-{
-    CLASSES
+#[derive(Drop)]
+pub(crate) struct Classes {
+    table: [Class; 128],
+    ghost tabled: { Tabled table },
 }
 
-// The class of a byte, looked up in the table; all from 128 up are bad.
-pub(crate) fn class_in(table: &[u8; 128], b: u8) -> u8
-    requires { Tabled table.now }
-    ensures { result ≡ class_of b }
-{
-    if b < 128 {
-        let i = b as usize;
-        return table[i];
+impl Classes {
+    pub(crate) fn new() -> Classes {
+        Classes { table: CLASSES }
     }
-    BAD
+
+    // The class of a byte, looked up in the table; all from 128 up are bad.
+    pub(crate) fn class(&self, b: u8) -> Class
+        ensures { result ≡ class_of b }
+    {
+        if b < 128 {
+            return self.table[b as usize];
+        }
+        Class::Bad
+    }
 }
 
 // The class of a byte.
-pub fn class(b: u8) -> u8
-    ensures { result ≡ class_of b }
-{
-    let table = classes();
-    class_in(&table, b)
+impl From<u8> for Class {
+    ghost from_gives = { λ b class. class ≡ class_of b };
+
+    fn from(b: u8) -> Class {
+        Classes::new().class(b)
+    }
 }

@@ -1,16 +1,10 @@
--- `table::soundness::placed` meets its contract. The invariant is `Gathered`: `out` has the operations of the positions passed.
-use mathlib.Core.Path.{◌≡◌}
-use borrow.Author.Rules.{rules}
-use lib.ListN.{length}
 use Rattle.table.proofs.Placed.{bit_shifted, one_more_gathered, all_gathered}
 use Rattle.table.proofs.soundness.placed.Goals as goal
 
-pub loop-p-preserved : goal.loop-p-preserved
-loop-p-preserved c =
-    let a = c.args in
-    let all : length a.operations ≡ 64 = search rules in
-    rw (bit_shifted _ (c.requires.1 c.loop-p.p c.loop-p-test.true))
-    (one_more_gathered a.operations a.n c.loop-p.p c.loop-p.out c.loop-p.invariant all c.requires.0 c.loop-p-test.true)
+pub loop-o-preserved : goal.loop-o-preserved
+loop-o-preserved c =
+    rw (bit_shifted _ (c.requires c.loop-o.o-index c.loop-o-test.true))
+    (one_more_gathered c.args.operations.now c.loop-o.o-index c.loop-o.out c.loop-o.invariant c.loop-o-test.true)
 
 pub returns : goal.returns
-returns c = all_gathered _ _ _ _ c.loop-p.invariant c.loop-p-test.false
+returns c = all_gathered _ _ _ c.loop-o.invariant c.loop-o-test.false

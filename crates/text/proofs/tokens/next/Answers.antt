@@ -9,7 +9,7 @@ use lib.ListN.{length, take, drop, length-drop}
 use lib.Seq.{length-take-le}
 use Rattle.text.specs.Tokens.{blank_byte, name_byte}
 use Rattle.text.proofs.Spans.{span_within}
-use Rattle.text.proofs.Ways.{way_nothing, way_word, way_sign}
+use Rattle.text.proofs.Ways.{way_nothing, way_word, way_sign, first_byte, no_first_byte, no_letter}
 use Rattle.text.proofs.tokens.next.Goals as goal
 
 -- what is left of a text behind its first k bytes
@@ -22,40 +22,46 @@ slice_bounds-rest-count c = omega (arith, span_within blank_byte c.args.s.now)
 pub slice_bounds-rest-start : goal.slice_bounds-rest-start
 slice_bounds-rest-start c = omega (arith, span_within blank_byte c.args.s.now)
 
-pub returns-then-rest-eq0 : goal.returns-then-rest-eq0
-returns-then-rest-eq0 c =
-    way_nothing _ _ c.blanks-k.ensures (left c.args.s.now c.blanks-k.result) (part_to_end c.args.s.now _) c.if-rest-eq0.true
+pub returns-in_default : goal.returns-in_default
+returns-in_default c =
+    let rest = left c.args.s.now c.blanks-start.result in
+    way_nothing _ _ c.blanks-start.ensures rest (part_to_end c.args.s.now _) (no_first_byte rest c.in_default.ensures.value)
 
 pub slice_bounds-word_token-end : goal.slice_bounds-word_token-end
 slice_bounds-word_token-end c =
-    sym (length-take-le _ (left c.args.s.now c.blanks-k.result) (omega (arith, span_within name_byte (left c.args.s.now c.blanks-k.result), c.run-n.ensures)))
+    let rest = left c.args.s.now c.blanks-start.result in
+    sym (length-take-le _ rest (omega (arith, span_within name_byte rest, c.run-n.ensures)))
 
 pub overflow_add-result : goal.overflow_add-result
 overflow_add-result c =
-    let k = c.blanks-k.result in
+    let k = c.blanks-start.result in
     omega (
       arith,
-      span_within name_byte (left c.args.s.now c.blanks-k.result),
+      span_within name_byte (left c.args.s.now k),
       span_within blank_byte c.args.s.now,
       ap length (part_to_end c.args.s.now k),
       length-drop k c.args.s.now,
     )
 
-pub returns-then-c-eq-LETTER : goal.returns-then-c-eq-LETTER
-returns-then-c-eq-LETTER c =
-    way_word _ _ c.blanks-k.ensures (left c.args.s.now c.blanks-k.result) c.class_in-c.result _ _
+pub returns-in-Letter : goal.returns-in-Letter
+returns-in-Letter c =
+    let rest = left c.args.s.now c.blanks-start.result in
+    let (some, first) = first_byte rest c.in-Some.first.now c.in-Some.ensures.value in
+    way_word _ _ c.blanks-start.ensures rest c.class.result _ _
     (part_to_end c.args.s.now _)
-    (omega arith)
-    c.class_in-c.ensures
-    c.if-c-eq-LETTER.true
+    some
+    (rw first at c.class.ensures)
+    c.in-Letter.is
     c.run-n.ensures
-    c.word_token-token.ensures
+    c.word_token.ensures
 
-pub returns : goal.returns
-returns c =
-    way_sign _ _ c.blanks-k.ensures (left c.args.s.now c.blanks-k.result) c.class_in-c.result _
+pub returns-in_default-class : goal.returns-in_default-class
+returns-in_default-class c =
+    let rest = left c.args.s.now c.blanks-start.result in
+    let (some, first) = first_byte rest c.in-Some.first.now c.in-Some.ensures.value in
+    way_sign _ _ c.blanks-start.ensures rest c.class.result _
     (part_to_end c.args.s.now _)
-    (omega arith)
-    c.class_in-c.ensures
-    c.if-c-eq-LETTER.false
-    c.sign_token-token.ensures
+    some
+    (rw first at c.class.ensures)
+    (no_letter c.class.result c.in_default-class.not-Letter)
+    c.sign_token.ensures
