@@ -7,7 +7,8 @@ use Rattle.table.specs.declared.cells.Table.{Table}
 use Rattle.text.proofs.Determined.{both_equal}
 use Rattle.parts.specs.Parts.{either, then, starred, completed, placed}
 use Rattle.parts.specs.declared.joining.Part.{Part}
-use Rattle.parts.specs.declared.placing.Placed.{Placed}
+use Rattle.std.specs.Prelude.{Result}
+use Rattle.text.specs.declared.faults.Fault.{Fault}
 
 pub either_part_determined : (l r q q' : Part) → q ≡ either l r → q' ≡ either l r → q ≡ q'
 either_part_determined l r q q' = both_equal
@@ -21,5 +22,5 @@ star_part_determined p q q' = both_equal
 pub complete_determined : (p : Part) (r r' : Table) → r ≡ completed p → r' ≡ completed p → r ≡ r'
 complete_determined p r r' = both_equal
 
-pub place_determined : (t : Table) (n : List ℕ) (r r' : Placed) → r ≡ placed t n → r' ≡ placed t n → r ≡ r'
+pub place_determined : (t : Table) (n : List ℕ) (r r' : Result Part Fault) → r ≡ placed t n → r' ≡ placed t n → r ≡ r'
 place_determined t n r r' = both_equal

@@ -1,7 +1,7 @@
 -- One name more is placed as the limits and rules say. The names of the table are read back as they were written, so the name is found
 -- exactly if its key is among the distinct names; a known name adds its operation, a new one its spelling as well, each in the first
 -- unused cell. What the table then holds is what is noted of one name more.
-use mathlib.Core.Path.{◌≡◌, refl}
+use mathlib.Core.Path.{◌≡◌, refl, ap}
 use mathlib.Core.Bool.{Bool, true, false, cond, not, ◌&&◌}
 use mathlib.Core.Logic.{⊎_elim}
 use mathlib.Core.List.Memᴰ
@@ -19,7 +19,11 @@ use Rattle.meaning.specs.Positions.{can_be_empty, first, last}
 use Rattle.meaning.proofs.OperationLaws.{added_known, added_new, distinct_snoc, length_added, distinct_member}
 use Rattle.meaning.proofs.NumberLaws.{number_new}
 use Rattle.table.specs.declared.numbers.Operation.{Operation}
-use Rattle.table.specs.declared.names.Found.TheVariants.{At, Nowhere}
+use Rattle.std.specs.Prelude.{Some, None, Result, Ok, Err}
+use Rattle.text.specs.Faults.{number_of as fault_number}
+use Rattle.text.specs.declared.faults.Fault.{Fault}
+use Rattle.text.specs.declared.faults.Fault.TheVariants.{Positions, Names}
+use Rattle.parts.specs.declared.joining.Part.{Part}
 use Rattle.table.specs.Cells.{names_of}
 use Rattle.table.specs.Following.{found_in}
 use Rattle.table.specs.Linking.{single}
@@ -27,9 +31,14 @@ use Rattle.table.specs.Rules.{padded, operations_of}
 use Rattle.table.proofs.NameNumbers.{length_operations, operations_snoc}
 use Rattle.table.proofs.Padding.{padded_snoc}
 use Rattle.table.proofs.Spelled.{spelled_back}
-use Rattle.parts.specs.Parts.{refusal, named, positioned, placed_as, placed}
+use Rattle.parts.specs.Parts.{named, positioned, placed_as, placed}
 use Rattle.parts.specs.Progress.{noted, Fine, rows_after, part_of}
 use Rattle.parts.proofs.SpelledMore.{written_name}
+
+-- the number of what was placed: that of the fault, or 0
+abbrev pub refused_by : Result Part Fault → ℕ
+refused_by (Ok p) = 0
+refused_by (Err f) = fault_number f
 
 -- the limit that one name more passes, by its number; 0 if none
 abbrev pub name_limit : List Name → Name → ℕ
@@ -90,12 +99,12 @@ module _ (ns : List Name) (rs : List ℕ) (n : Name) (fine : Fine ns) (short : l
 
   -- a short name is looked up among the distinct ones, if there is a position left
   placed_found : placed (noted ns rs) n
-      ≡ cond (leb 64 (length ns)) (refusal 6 (noted ns rs)) (placed_as (noted ns rs) n (found_in (distinct ns) (key n)))
+      ≡ cond (leb 64 (length ns)) (Err Positions) (placed_as (noted ns rs) n (found_in (distinct ns) (key n)))
   unfolding placed noted
   placed_found = rw (le-ltb 16 (length n) short, names_noted)
 
   -- the number of the refusal is that of the limit
-  pub placed_number : (placed (noted ns rs) n).number ≡ name_limit ns n
+  pub placed_number : refused_by (placed (noted ns rs) n) ≡ name_limit ns n
   unfolding found_in noted
   placed_number = rw placed_found (go (leb 64 (length ns)) (holds (distinct ns) (key n)))
     where
@@ -103,20 +112,20 @@ module _ (ns : List Name) (rs : List ℕ) (n : Name) (fine : Fine ns) (short : l
       o = record { 0 = number_of (distinct ns) (key n) }
 
       go : (full known : Bool)
-          → (cond full (refusal 6 (noted ns rs)) (placed_as (noted ns rs) n (cond known (At o) Nowhere))).number
+          → refused_by (cond full (Err Positions) (placed_as (noted ns rs) n (cond known (Some o) None)))
           ≡ limit_by full known (leb 32 (length (distinct ns)))
       go true known = refl
       go false true = refl
       go false false = new (leb 32 (length (distinct ns)))
         where
           new : (many : Bool)
-              → (cond many (refusal 7 (noted ns rs)) (positioned (named (noted ns rs) n) (length (distinct ns)))).number ≡ cond many 7 0
+              → refused_by (cond many (Err Names) (Ok (positioned (named (noted ns rs) n) (length (distinct ns))))) ≡ cond many 7 0
           new true = refl
           new false = refl
 
   -- a known name: one operation more
   known_part : holds (distinct ns) (key n) ≡ true → length ns < 64
-      → (positioned (noted ns rs) (number_of (distinct ns) (key n))).part ≡ part_of (name n) ns rs
+      → positioned (noted ns rs) (number_of (distinct ns) (key n)) ≡ part_of (name n) ns rs
   unfolding part_of can_be_empty first last names rows_after noted
   known_part known left =
       rw (
@@ -129,7 +138,7 @@ module _ (ns : List Name) (rs : List ℕ) (n : Name) (fine : Fine ns) (short : l
 
   -- a new name: its spelling and its operation, which is the next number
   new_part : holds (distinct ns) (key n) ≡ false → length (distinct ns) < 32 → length ns < 64
-      → (positioned (named (noted ns rs) n) (length (distinct ns))).part ≡ part_of (name n) ns rs
+      → positioned (named (noted ns rs) n) (length (distinct ns)) ≡ part_of (name n) ns rs
   unfolding part_of can_be_empty first last names rows_after noted
   new_part new few left =
       rw (
@@ -145,7 +154,7 @@ module _ (ns : List Name) (rs : List ℕ) (n : Name) (fine : Fine ns) (short : l
       )
 
   -- and where there is none, the part is that of the name, and the names still fit
-  pub placed_part : name_limit ns n ≡ 0 → (placed (noted ns rs) n).part ≡ part_of (name n) ns rs
+  pub placed_part : name_limit ns n ≡ 0 → placed (noted ns rs) n ≡ Ok (part_of (name n) ns rs)
   unfolding found_in noted
   placed_part none = rw (placed_found, lt-leb 64 (length ns) left) (go (holds (distinct ns) (key n)) refl)
     where
@@ -153,9 +162,9 @@ module _ (ns : List Name) (rs : List ℕ) (n : Name) (fine : Fine ns) (short : l
       left = position_left ns n none
 
       go : (known : Bool) → holds (distinct ns) (key n) ≡ known
-          → (placed_as (noted ns rs) n (cond known (At (record { 0 = number_of (distinct ns) (key n) })) Nowhere)).part ≡ part_of (name n) ns rs
-      go true known = known_part known left
-      go false new = let few = name_left ns n none new in rw (lt-leb 32 (length (distinct ns)) few) (new_part new few left)
+          → placed_as (noted ns rs) n (cond known (Some (record { 0 = number_of (distinct ns) (key n) })) None) ≡ Ok (part_of (name n) ns rs)
+      go true known = ap Ok (known_part known left)
+      go false new = let few = name_left ns n none new in rw (lt-leb 32 (length (distinct ns)) few) (ap Ok (new_part new few left))
 
   pub placed_fine : name_limit ns n ≡ 0 → Fine (ns ++ n ∷ [])
   placed_fine none =

@@ -1,17 +1,17 @@
 -- Parts, as the program joins them: each rule of document 01, "The table", on a table that is being built. What the parts of an
 -- expression come to is in Progress.antt.
-use Rattle.std.specs.Prelude.{true, false, cond, ◌&&◌, ◌||◌, List, ◌++◌, ℕ, ◌+◌, ◌*◌, ltb, leb, length, take, drop, set}
+use Rattle.std.specs.Prelude.{true, false, cond, ◌&&◌, ◌||◌, List, ◌++◌, ℕ, ◌+◌, ◌*◌, ltb, leb, length, take, drop, set, Option, Some, None, Result, Ok, Err}
 use Rattle.std.specs.Int.Bits.{bit_or}
 use Rattle.meaning.specs.Names.{Name, key}
 use Rattle.table.specs.declared.cells.Table.{Table}
-use Rattle.table.specs.declared.names.Found.{Found}
-use Rattle.table.specs.declared.names.Found.TheVariants.{At, Nowhere}
+use Rattle.table.specs.declared.numbers.Operation.{Operation}
+use Rattle.text.specs.declared.faults.Fault.{Fault}
+use Rattle.text.specs.declared.faults.Fault.TheVariants.{LongName, Positions, Names}
 use Rattle.table.specs.Cells.{names_of}
 use Rattle.table.specs.Following.{found_in}
 use Rattle.table.specs.Linking.{single, linked}
 use Rattle.table.specs.Rules.{marked}
 use Rattle.parts.specs.declared.joining.Part.{Part}
-use Rattle.parts.specs.declared.placing.Placed.{Placed}
 
 -- t, with every position in l followed by every position in f
 abbrev pub followed : Table → ℕ → ℕ → Table
@@ -72,10 +72,6 @@ unfoldable pub completed : Part → Table
 completed p =
     marked (started (followed p.table p.last p.first) p.first)
 
--- nothing was placed
-abbrev pub refusal : ℕ → Table → Placed
-refusal n t = record { number = n; part = record { empty = false; first = 0; last = 0; table = t } }
-
 -- the bytes with n written over those from `at` on
 unfoldable pub written : List ℕ → ℕ → Name → List ℕ
 written bs at n = take at bs ++ n ++ drop (at + length n) bs
@@ -95,35 +91,31 @@ named t n =
     }
 
 -- one position more, of operation o: "a name can't be empty; its first and last sets are its own position"
-abbrev pub positioned : Table → ℕ → Placed
+abbrev pub positioned : Table → ℕ → Part
 positioned t o =
     record {
-      number = 0;
-      part =
+      empty = false;
+      first = single (t.positions + 1);
+      last = single (t.positions + 1);
+      table =
           record {
-            empty = false;
-            first = single (t.positions + 1);
-            last = single (t.positions + 1);
-            table =
-                record {
-                  positions = t.positions + 1;
-                  names = t.names;
-                  start = t.start;
-                  operations = set t.operations t.positions (record { 0 = o });
-                  rows = t.rows;
-                  lengths = t.lengths;
-                  bytes = t.bytes;
-                  mark = t.mark;
-                };
+            positions = t.positions + 1;
+            names = t.names;
+            start = t.start;
+            operations = set t.operations t.positions (record { 0 = o });
+            rows = t.rows;
+            lengths = t.lengths;
+            bytes = t.bytes;
+            mark = t.mark;
           };
     }
 
--- a name that was found, or a new one: "33rd distinct name" is 7
-abbrev pub placed_as : Table → Name → Found → Placed
-placed_as t n (At o) = positioned t o.0
-placed_as t n Nowhere = cond (leb 32 t.names) (refusal 7 t) (positioned (named t n) t.names)
+-- a name that was found, or a new one, unless it is the "33rd distinct name"
+abbrev pub placed_as : Table → Name → Option Operation → Result Part Fault
+placed_as t n (Some o) = Ok (positioned t o.0)
+placed_as t n None = cond (leb 32 t.names) (Err Names) (Ok (positioned (named t n) t.names))
 
--- "name of 17 or more bytes" is 3, "65th position" is 6
-unfoldable pub placed : Table → Name → Placed
+-- unless it is a "name of 17 or more bytes" or the "65th position"
+unfoldable pub placed : Table → Name → Result Part Fault
 placed t n =
-    cond (ltb 16 (length n)) (refusal 3 t) (cond (leb 64 t.positions) (refusal 6 t) (placed_as t n (found_in (names_of t) (key n))))
+    cond (ltb 16 (length n)) (Err LongName) (cond (leb 64 t.positions) (Err Positions) (placed_as t n (found_in (names_of t) (key n))))
