@@ -13,7 +13,7 @@ use denote.Enum.Declared.{tag_of}
 use Rattle.text.specs.contracts.tokens.Token as Token-enum
 use Rattle.text.specs.declared.tokens.Token.{Token}
 use Rattle.text.specs.declared.tokens.Token.TheVariants.{Semicolon, Plus, Star, Open, Close, Path, End, Name as Named, TextEnd, Bad, Long}
-use Rattle.compiler.specs.declared.readers.Onward.TheVariants.{Ends}
+use Rattle.std.specs.Prelude.{None as Ends}
 use Rattle.compiler.specs.Reading.{kind, begins, ends_factor, is_close, is_path, is_end, is_text_end, factor_by, sequence_by}
 
 -- the token's place in the enum is one of ks

@@ -9,12 +9,12 @@ use Rattle.text.specs.Tokens.{next_token}
 use Rattle.text.specs.declared.tokens.Token.TheVariants.{Close}
 use Rattle.text.specs.declared.tokens.Read.{Read}
 use Rattle.compiler.specs.Reading.{behind, closed, halted, is_close, unfit}
-use Rattle.compiler.specs.declared.readers.Reading.{Reading}
+use Rattle.compiler.specs.Reading.{Seen}
 use Rattle.compiler.proofs.Endings.{behind_fits, behind_starts}
 use Rattle.compiler.proofs.Tails.{slice, slice_drops}
 
 -- u is the token behind what was read
-module _ (s : List ℕ) (e : Reading) (u : Read) (told : u ≡ next_token (slice s (length s - e.left))) where
+module _ (s : List ℕ) (e : Seen) (u : Read) (told : u ≡ next_token (slice s (length s - e.left))) where
   pub is_behind : u ≡ behind s e
   is_behind = told ∙ ap next_token (slice_drops s (length s - e.left))
 
@@ -28,7 +28,7 @@ module _ (s : List ℕ) (e : Reading) (u : Read) (told : u ≡ next_token (slice
   unfolding closed
   closed_closes z t = rw (eq-eqb _ _ z, ← is_behind, t) refl
 
-  pub closed_halts : (r : Reading) → e.number ≡ 0 → is_close u.token ≡ false
-      → r ≡ halted (unfit u.token) (e.left - u.start) e.part.table → r ≡ closed s e
+  pub closed_halts : (r : Seen) → e.number ≡ 0 → is_close u.token ≡ false
+      → r ≡ halted (unfit u.token) (e.left - u.start) → r ≡ closed s e
   unfolding closed
   closed_halts r z t is = rw (is, eq-eqb _ _ z, ← is_behind, t) refl

@@ -12,15 +12,15 @@ use Rattle.text.specs.declared.tokens.Read.{Read}
 use Rattle.parts.specs.Parts.{completed}
 use Rattle.parts.specs.declared.joining.Part.{Part}
 use Rattle.table.specs.declared.cells.Table.{Table}
-use Rattle.compiler.specs.Reading.{is_end, is_text_end, refused_at, concluded, ended, unfit}
-use Rattle.compiler.specs.declared.readers.Reading.{Reading}
+use Rattle.compiler.specs.Reading.{made, is_end, is_text_end, refused_at, concluded, ended, unfit}
+use Rattle.compiler.specs.Reading.{Seen}
 use Rattle.compiler.specs.declared.replies.Compiled.{Compiled}
-use Rattle.compiler.specs.declared.replies.Reply.TheVariants.{Accepted as Accepts}
+use Rattle.std.specs.Prelude.{Ok}
 use Rattle.compiler.proofs.Closing.{is_behind, used_behind, start_behind}
 use Rattle.compiler.proofs.Tails.{slice, slice_drops, slice_size}
 
 module _ (s : List ℕ) (k : ℕ) (p : Part) (u : Read) (told : u ≡ next_token s) where
-  pub concluded_accepts : u.token ≡ TextEnd → (t : Table) → t ≡ completed p → record { reply = Accepts; table = t } ≡ concluded s k p
+  pub concluded_accepts : u.token ≡ TextEnd → (t : Table) → t ≡ completed p → made (Ok t) ≡ concluded s k p
   unfolding concluded
   concluded_accepts e t is = rw (is, ← told, e) refl
 
@@ -29,7 +29,7 @@ module _ (s : List ℕ) (k : ℕ) (p : Part) (u : Read) (told : u ≡ next_token
   unfolding concluded
   concluded_refuses e r is = rw (is, ← told, e) refl
 
-module _ (text : List ℕ) (e : Reading) where
+module _ (text : List ℕ) (e : Seen) where
   pub ended_inside : (e.number ≡ 0 → ⊥) → (r : Compiled) → r ≡ refused_at e.number (length text - e.left) → r ≡ ended text e
   unfolding ended
   ended_inside Some-number r is = rw (is, ne_eqb _ _ Some-number) refl

@@ -14,18 +14,18 @@ use Rattle.grammar.specs.Symbols.{Symbol}
 use Rattle.grammar.specs.Machine.{State, step_to, depth_of, limit_at, names_on, stepped}
 use Rattle.grammar.specs.Machine.Verdict.{refused}
 use Rattle.compiler.specs.Reading.{Tail, verdict, behind, is_text_end, unfit}
-use Rattle.compiler.specs.declared.readers.Reading.{Reading}
+use Rattle.compiler.specs.Reading.{Seen}
 use Rattle.compiler.proofs.Tails.{tail_drop}
 use Rattle.compiler.proofs.Verdicts.{Is, stuck_at, verdict_symbol, verdict_stuck}
 
 -- what stands behind a reading of a part of s stands behind it in s
-pub behind_part : (s : List ℕ) (j : ℕ) (r : Reading) → j ≤ length s → r.left ≤ length s - j → behind (drop j s) r ≡ behind s r
+pub behind_part : (s : List ℕ) (j : ℕ) (r : Seen) → j ≤ length s → r.left ≤ length s - j → behind (drop j s) r ≡ behind s r
 behind_part s j r fits w =
     let far : j + (length (drop j s) - r.left) ≡ length s - r.left = omega (arith, length-drop j s) in
     ap next_token (drop-drop (length (drop j s) - r.left) j s ∙ ap (λ (k : ℕ). drop k s) far)
 
 -- where a reading of s ends
-module _ (s : List ℕ) (r : Reading) (w : r.left ≤ length s) where
+module _ (s : List ℕ) (r : Seen) (w : r.left ≤ length s) where
   unfoldable pub ending : List ℕ
   ending = drop (length s - r.left) s
 

@@ -8,8 +8,8 @@ use Rattle.grammar.specs.Machine.{Left, State, upward, nothing_left, sum_to}
 use Rattle.grammar.specs.Machine.State.{wanting, having}
 use Rattle.table.specs.declared.cells.Table.{Table}
 use Rattle.compiler.specs.Reading.{SequenceRead, ExpressionRead, Sum, on_sum, or_read, behind, sequence_from, ends_sequence, ends_expression}
-use Rattle.compiler.specs.declared.readers.Onward.TheVariants.{Ends}
-use Rattle.compiler.specs.declared.readers.Reading.{Reading}
+use Rattle.std.specs.Prelude.{None as Ends}
+use Rattle.compiler.specs.Reading.{Seen}
 use Rattle.compiler.proofs.Tails.{slice}
 use Rattle.compiler.proofs.Growing as growing
 use Rattle.compiler.proofs.Joining.{names_or, or_joined}
@@ -32,7 +32,7 @@ turn u b = some (either_way b)
 
 module _ (s : List ℕ) (d : ℕ) (t : Table) where
   -- a sequence is an expression
-  pub expression_starts : (q : Reading) → SequenceRead ends_sequence s d t q → ExpressionRead ends_sequence s d t q
+  pub expression_starts : (q : Seen) → SequenceRead ends_sequence s d t q → ExpressionRead ends_sequence s d t q
   expression_starts q given =
       growing.starts wanted_sum sum_read either_way s d t wanted_run run_read in_order (λ u. none) (λ b. (
         on_sum none b.0,
@@ -40,17 +40,17 @@ module _ (s : List ℕ) (d : ℕ) (t : Table) where
       )) ends_sequence q given
       (λ a ks. refl) (λ a c ks. refl) (λ c. refl)
 
-  pub expression_refused : (r : Reading) → ExpressionRead ends_sequence s d t r → (r.number ≡ 0 → ⊥) → ExpressionRead ends_expression s d t r
+  pub expression_refused : (r : Seen) → ExpressionRead ends_sequence s d t r → (r.number ≡ 0 → ⊥) → ExpressionRead ends_expression s d t r
   expression_refused r = growing.still_refused wanted_sum sum_read either_way s d t ends_sequence ends_expression r
 
-  module _ (e : Reading) (given : ExpressionRead ends_sequence s d t e) (z : e.number ≡ 0) where
+  module _ (e : Seen) (given : ExpressionRead ends_sequence s d t e) (z : e.number ≡ 0) where
     pub expression_ends : sequence_from s e.left ≡ Ends → ExpressionRead ends_expression s d t e
     expression_ends is =
         growing.ends_there wanted_sum sum_read either_way s d t ends_sequence e given z ends_expression (no_sequence_follows
         (behind s e).token _ _ is)
 
     -- another sequence follows, at byte j
-    module _ (j : ℕ) (on : GoesOn upward s e j) (t' : Table) (so-far-is : t' ≡ e.part.table) (q : Reading)
+    module _ (j : ℕ) (on : GoesOn upward s e j) (t' : Table) (so-far-is : t' ≡ e.part.table) (q : Seen)
         (told : SequenceRead ends_sequence (slice s j) d t' q) where
       pub sequence_is_refused : (q.number ≡ 0 → ⊥) → ExpressionRead ends_expression s d t q
       sequence_is_refused =
@@ -64,11 +64,11 @@ module _ (s : List ℕ) (d : ℕ) (t : Table) where
           turn j on.fits on.less (λ text h u b. on.on text h b.0 b.1)
           t' so-far-is q ends_sequence told
 
-      pub expression_grows : q.number ≡ 0 → (r : Reading) → r ≡ or_read e q → ExpressionRead ends_sequence s d t r
+      pub expression_grows : q.number ≡ 0 → (r : Seen) → r ≡ or_read e q → ExpressionRead ends_sequence s d t r
       expression_grows y r joined =
           growing.grows wanted_sum sum_read either_way s d t ends_sequence e given z wanted_run run_read in_order
           turn j on.fits on.less (λ text h u b. on.on text h b.0 b.1)
           t' so-far-is q ends_sequence told (λ b c. (on_sum (some (either_way b)) c.0, c.1)) (λ a b c ks. refl)
           (λ b c ns. names_or (either_way b) (in_order c) ns) y r
-          (ap (λ (x : Reading). x.number) joined) (ap (λ (x : Reading). x.left) joined)
-          (λ ns rs b c is_b is_c. ap (λ (x : Reading). x.part) joined ∙ or_joined e (either_way b) ns rs is_b q (in_order c) is_c)
+          (ap (λ (x : Seen). x.number) joined) (ap (λ (x : Seen). x.left) joined)
+          (λ ns rs b c is_b is_c. ap (λ (x : Seen). x.part) joined ∙ or_joined e (either_way b) ns rs is_b q (in_order c) is_c)

@@ -23,11 +23,14 @@ use Rattle.grammar.specs.Machine.Verdict.{refused}
 use Rattle.table.specs.declared.cells.Table.{Table}
 use Rattle.parts.specs.Parts.{placed}
 use Rattle.parts.specs.Progress.{noted, Fine, part_of, star_times}
-use Rattle.parts.specs.declared.placing.Placed.{Placed}
+use Rattle.std.specs.Prelude.{Result, Ok}
+use Rattle.text.specs.declared.faults.Fault.{Fault}
+use Rattle.parts.specs.declared.joining.Part.{Part}
+use Rattle.parts.proofs.NameParts.{refused_by}
 use Rattle.parts.proofs.Laws.{part_stars, names_starred}
 use Rattle.parts.proofs.NameParts.{name_limit, placed_number, placed_part, placed_fine}
 use Rattle.compiler.specs.Reading.{begins, Tail, StarryRead, FactorRead, verdict, ends_expression, is_close, halted, unfit}
-use Rattle.compiler.specs.declared.readers.Reading.{Reading}
+use Rattle.compiler.specs.Reading.{Seen}
 use Rattle.compiler.proofs.Verdicts.{is_opening, is_name, place, stuck_at, verdict_symbol, verdict_stuck}
 
 -- no token is refused by 0
@@ -84,6 +87,10 @@ name_alone : (w : Name) → names (name_of w) ≡ w ∷ []
 unfolding names
 name_alone w = refl
 
+-- what is placed is one part
+one_part : (p q : Part) → ◌≡◌ {A = Result Part Fault} (Ok p) (Ok q) → p ≡ q
+one_part p q e = cc
+
 -- a limit that is passed refuses
 limited_refuses : (n k : ℕ) (v : Verdict) → (n ≡ 0 → ⊥) → limited n k v ≡ refused n k
 unfolding limited
@@ -97,8 +104,8 @@ limited_goes (suc n) k v h = absurd (omega arith)
 
 module _ (s : List ℕ) (d : ℕ) (t : Table) where
   -- a token that begins no factor
-  pub factor_other : (r : Reading) → begins (next_token s).token ≡ false
-      → r ≡ halted (unfit (next_token s).token) (length s - (next_token s).start) t → FactorRead s d t r
+  pub factor_other : (r : Seen) → begins (next_token s).token ≡ false
+      → r ≡ halted (unfit (next_token s).token) (length s - (next_token s).start) → FactorRead s d t r
   factor_other r other is =
       let u = next_token s in
       subst (FactorRead s d t) (sym is)
@@ -117,7 +124,7 @@ module _ (s : List ℕ) (d : ℕ) (t : Table) where
   unfolding step_to want_step depth_of limit_at names_on stepped
   opened text ks h e l ns = verdict_symbol text s h Open opening e (is_opening _) (wanting l ks) ns
 
-  pub factor_deep : (r : Reading) → (next_token s).token ≡ Open → 16 ≤ d → r ≡ halted 5 (length s - (next_token s).start) t → FactorRead s d t r
+  pub factor_deep : (r : Seen) → (next_token s).token ≡ Open → 16 ≤ d → r ≡ halted 5 (length s - (next_token s).start) → FactorRead s d t r
   unfolding limited
   factor_deep r e deep is =
       subst (FactorRead s d t) (sym is)
@@ -146,13 +153,13 @@ module _ (s : List ℕ) (d : ℕ) (t : Table) where
     name_some : (next_token s).start < (next_token s).used
     name_some = omega (arith, name_reach.some, name_reach.reach)
 
-    module _ (p : Placed) (told : p ≡ placed t (name_at s m)) where
+    module _ (p : Result Part Fault) (told : p ≡ placed t (name_at s m)) where
       -- the number is that of the limit
-      number_is : (ns : List Name) (rs : List ℕ) → t ≡ noted ns rs → Fine ns → p.number ≡ name_limit ns (name_at s m)
+      number_is : (ns : List Name) (rs : List ℕ) → t ≡ noted ns rs → Fine ns → refused_by p ≡ name_limit ns (name_at s m)
       number_is ns rs is fine = rw (told, is) (placed_number ns rs (name_at s m) fine name_short)
 
       -- a name that passes a limit
-      pub factor_limit : (r : Reading) → (p.number ≡ 0 → ⊥) → r ≡ halted p.number (length s - (next_token s).start) t → FactorRead s d t r
+      pub factor_limit : (r : Seen) → (refused_by p ≡ 0 → ⊥) → r ≡ halted (refused_by p) (length s - (next_token s).start) → FactorRead s d t r
       factor_limit r some is =
           subst (FactorRead s d t) (sym is)
           record {
@@ -169,19 +176,19 @@ module _ (s : List ℕ) (d : ℕ) (t : Table) where
           }
 
       -- a name, with the stars behind it
-      pub factor_name : (r : Reading) → p.number ≡ 0
-          → StarryRead s (record { number = 0; left = length s - (next_token s).used; part = p.part }) r → FactorRead s d t r
-      factor_name r z starry =
+      pub factor_name : (r : Seen) (own : Part) → p ≡ Ok own
+          → StarryRead s (record { number = 0; left = length s - (next_token s).used; part = own }) r → FactorRead s d t r
+      factor_name r own owned starry =
           record {
             within = omega (arith, starry.within);
             fewer = λ _. omega (arith, starry.within, name_some, used_within_text s);
             outcome = λ ns rs same fine.
-                let limit : name_limit ns (name_at s m) ≡ 0 = sym (number_is ns rs same fine) ∙ z in
+                let limit : name_limit ns (name_at s m) ≡ 0 = sym (number_is ns rs same fine) ∙ ap refused_by owned in
                 let f = star_times starry.times (name_of (name_at s m)) in
                 let all : ns ++ names f ≡ ns ++ name_at s m ∷ [] = ap (λ (w : List Name). ns ++ w) (names_starred starry.times
                 (name_of (name_at s m)) ∙ name_alone (name_at s m)) in
-                let whole : p.part ≡ part_of (name_of (name_at s m)) ns rs = rw (told, same) (placed_part ns rs (name_at s m) fine
-                name_short limit) in
+                let whole : own ≡ part_of (name_of (name_at s m)) ns rs =
+                one_part _ _ (sym owned ∙ told ∙ rw same (placed_part ns rs (name_at s m) fine name_short limit)) in
                 inl (
                   starry.number_stays,
                   (

@@ -17,7 +17,7 @@ use Rattle.table.specs.declared.cells.Table.{Table}
 use Rattle.parts.specs.Progress.{noted, Fine, part_of, rows_after}
 use Rattle.parts.proofs.Laws.{part_behind}
 use Rattle.compiler.specs.Reading.{Tail, Goes, Stops, ReadsAs, PartRead, EitherWay, verdict, behind}
-use Rattle.compiler.specs.declared.readers.Reading.{Reading}
+use Rattle.compiler.specs.Reading.{Seen}
 use Rattle.compiler.proofs.Tails.{slice, slice_drops, tail_drop}
 use Rattle.compiler.proofs.Endings.{behind_part}
 use Rattle.compiler.proofs.Joining.{table_so_far}
@@ -25,7 +25,7 @@ use Rattle.compiler.proofs.Joining.{table_so_far}
 -- the kind that grows
 module _ {A B : Type 0} (from : A → List Left → State) (to : A → B → List Left → State) (whole : B → Expr) (s : List ℕ) (d : ℕ) (t : Table) where
   -- a refusal is one, whatever may stand behind a part
-  pub still_refused : (ends ends' : Token → Bool) (r : Reading) → ReadsAs from to whole ends s d t r → (r.number ≡ 0 → ⊥)
+  pub still_refused : (ends ends' : Token → Bool) (r : Seen) → ReadsAs from to whole ends s d t r → (r.number ≡ 0 → ⊥)
       → ReadsAs from to whole ends' s d t r
   still_refused ends ends' r given Some-number =
       record { within = given.within; fewer = given.fewer; outcome = λ ns rs same fine. by ns (given.outcome ns rs same fine) }
@@ -37,7 +37,7 @@ module _ {A B : Type 0} (from : A → List Left → State) (to : A → B → Lis
 
   -- a part of the other kind is one of this kind, where the two differ in name only
   module _ {A' B' : Type 0} (from' : A' → List Left → State) (to' : A' → B' → List Left → State) (whole' : B' → Expr)
-      (first : A → A') (one : B' → B) (ends : Token → Bool) (f : Reading) (given : ReadsAs from' to' whole' ends s d t f) where
+      (first : A → A') (one : B' → B) (ends : Token → Bool) (f : Seen) (given : ReadsAs from' to' whole' ends s d t f) where
     pub starts : ((a : A) (ks : List Left) → from a ks ≡ from' (first a) ks) → ((a : A) (c : B') (ks : List Left) → to a (one c)
         ks ≡ to' (first a) c ks)
         → ((c : B') → whole (one c) ≡ whole' c) → ReadsAs from to whole ends s d t f
@@ -66,7 +66,7 @@ module _ {A B : Type 0} (from : A → List Left → State) (to : A → B → Lis
             inr (n, λ a text ks h k. ap (λ (st : State). verdict text (length s) st ns) (from_First a ks) ∙ stops (first a) text ks h k)
 
   -- q was read so far
-  module _ (ends : Token → Bool) (q : Reading) (given : ReadsAs from to whole ends s d t q) (z : q.number ≡ 0) where
+  module _ (ends : Token → Bool) (q : Seen) (given : ReadsAs from to whole ends s d t q) (z : q.number ≡ 0) where
     record SoFar (ns : List Name) (rs : List ℕ) : Type 0 where
       parts : B
       read : PartRead s q ends ns rs (whole parts)
@@ -100,7 +100,7 @@ module _ {A B : Type 0} (from : A → List Left → State) (to : A → B → Lis
         (turn : A → B → A') (j : ℕ) (fits : j ≤ length s) (less : length s - j ≤ q.left)
         (on : (text : List ℕ) → Tail text s → (a : A) (b : B) (ks : List Left) (ns : List Name)
         → verdict text q.left (to a b ks) ns ≡ verdict text (length s - j) (from' (turn a b) ks) ns)
-        (t' : Table) (so-far-is : t' ≡ q.part.table) (f : Reading) (ends' : Token → Bool) (told : ReadsAs from' to' whole'
+        (t' : Table) (so-far-is : t' ≡ q.part.table) (f : Seen) (ends' : Token → Bool) (told : ReadsAs from' to' whole'
         ends' (slice s j) d t' f) where
       next : ReadsAs from' to' whole' ends' (drop j s) d q.part.table f
       next =
@@ -157,7 +157,7 @@ module _ {A B : Type 0} (from : A → List Left → State) (to : A → B → Lis
       module _ (more : B → B' → B) (to-more : (a : A) (b : B) (c : B') (ks : List Left) → to a (more b c) ks ≡ to' (turn a b) c ks)
           (names_more : (b : B) (c : B') (ns : List Name) → ns ++ names (whole (more b c)) ≡ (ns ++ names (whole b)) ++ names
           (whole' c)) where
-        pub grows : f.number ≡ 0 → (r : Reading) → r.number ≡ f.number → r.left ≡ f.left
+        pub grows : f.number ≡ 0 → (r : Seen) → r.number ≡ f.number → r.left ≡ f.left
             → ((ns : List Name) (rs : List ℕ) (b : B) (c : B') → q.part ≡ part_of (whole b) ns rs → f.part ≡ part_behind (whole
             b) (whole' c) ns rs
             → r.part ≡ part_of (whole (more b c)) ns rs)

@@ -8,7 +8,7 @@ use Rattle.text.specs.Tokens.{next_token}
 use Rattle.text.proofs.Reading.{used_within_text}
 use Rattle.table.specs.declared.cells.Table.{Table}
 use Rattle.compiler.specs.Reading.{Tail, ExpressionRead, behind, ends_expression}
-use Rattle.compiler.specs.declared.readers.Reading.{Reading}
+use Rattle.compiler.specs.Reading.{Seen}
 use Rattle.compiler.proofs.Tails.{slice, slice_drops, tail_drop}
 use Rattle.compiler.proofs.Endings.{behind_part}
 
@@ -22,7 +22,7 @@ size_inside s = length-drop (next_token s).used s
 pub tail_inside : (text s : List ℕ) → Tail text s → Tail text (inside s)
 tail_inside text s h = tail_drop text s h (next_token s).used (used_within_text s)
 
-module _ (s : List ℕ) (d : ℕ) (t : Table) (e : Reading) (told : ExpressionRead ends_expression (slice s (next_token s).used) d t e) where
+module _ (s : List ℕ) (d : ℕ) (t : Table) (e : Seen) (told : ExpressionRead ends_expression (slice s (next_token s).used) d t e) where
   pub inner : ExpressionRead ends_expression (inside s) d t e
   inner = subst (λ (v : List ℕ). ExpressionRead ends_expression v d t e) (slice_drops s (next_token s).used) told
 

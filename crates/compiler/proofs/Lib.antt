@@ -19,3 +19,4 @@ pub mod Wholes
 pub mod Concluding
 pub mod CompiledTexts
 pub mod SampleReadings
+pub mod Refusing

@@ -17,25 +17,24 @@ use Rattle.grammar.specs.Symbols.Symbol.{semicolon, plus, opening, name}
 use Rattle.grammar.specs.Machine.{Left, step_to, want_step, have_step, depth_of, limit_at, names_on, stepped, limited, onward, upward}
 use Rattle.grammar.specs.Machine.State.{wanting, having}
 use Rattle.compiler.specs.Reading.{Tail, verdict, behind, factor_by, sequence_by, from_by, factor_from, sequence_from, ends_factor, ends_sequence, ends_expression}
-use Rattle.compiler.specs.declared.readers.Onward.{Onward}
-use Rattle.compiler.specs.declared.readers.Onward.TheVariants.{At, Ends}
-use Rattle.compiler.specs.declared.readers.Reading.{Reading}
+use Rattle.std.specs.Prelude.{Option, Some as At, None as Ends}
+use Rattle.compiler.specs.Reading.{Seen}
 use Rattle.compiler.proofs.Tails.{slice, slice_drops, slice_size}
 use Rattle.compiler.proofs.Endings.{behind_fits, behind_symbol}
 use Rattle.compiler.proofs.Verdicts.{is_semicolon, is_plus, is_opening, is_name}
 
 -- behind the reading q of s the machine goes on at byte j, from a factor that has ended to one that has to come
-pub record GoesOn (turn : Left → Expr → Left) (s : List ℕ) (q : Reading) (j : ℕ) : Type 0 where
+pub record GoesOn (turn : Left → Expr → Left) (s : List ℕ) (q : Seen) (j : ℕ) : Type 0 where
   pub fits : j ≤ length s
   pub less : length s - j ≤ q.left
   pub on : (text : List ℕ) → Tail text s → (l : Left) (f : Expr) (ks : List Left) (ns : List Name)
       → verdict text q.left (having l f ks) ns ≡ verdict text (length s - j) (wanting (turn l f) ks) ns
 
-abbrev byte_of : Onward → ℕ
+abbrev byte_of : Option ℕ → ℕ
 byte_of (At j) = j
 byte_of Ends = 0
 
-abbrev goes_where : Onward → ℕ
+abbrev goes_where : Option ℕ → ℕ
 goes_where (At j) = 1
 goes_where Ends = 0
 
@@ -45,7 +44,7 @@ never_on j e = let never = ap goes_where e in absurd (omega arith)
 never_ends : {X : Type 0} (j : ℕ) → At j ≡ Ends → X
 never_ends j e = let never = ap goes_where e in absurd (omega arith)
 
-module _ (s : List ℕ) (q : Reading) (w : q.left ≤ length s) where
+module _ (s : List ℕ) (q : Seen) (w : q.left ≤ length s) where
   -- the machine turns over a sign, and goes on behind it
   over : (turn : Left → Expr → Left)
       → ((text : List ℕ) → Tail text s → (l : Left) (f : Expr) (ks : List Left) (ns : List Name)
@@ -161,7 +160,7 @@ module _ (s : List ℕ) (left : ℕ) (u : Read) (told : u ≡ next_token (slice 
   next_fits h =
       omega (arith, ap (λ (v : Read). v.used) told, used_within_text (slice s (length s - left)), slice_size s (length s - left))
 
-  pub goes_by : (by : Token → ℕ → ℕ → Onward) (T : Token) → u.token ≡ T → (o : Onward) → o ≡ by T (length s - left) u.used →
+  pub goes_by : (by : Token → ℕ → ℕ → Option ℕ) (T : Token) → u.token ≡ T → (o : Option ℕ) → o ≡ by T (length s - left) u.used →
       o ≡ from_by by s left
   goes_by by T t o is =
       is ∙ ap (λ (x : Token). by x (length s - left) u.used) (sym t)

@@ -24,7 +24,7 @@ use Rattle.table.specs.declared.cells.Table.{Table}
 use Rattle.parts.specs.Progress.{Fine, part_of, star_times}
 use Rattle.parts.proofs.Laws.{part_stars, names_starred}
 use Rattle.compiler.specs.Reading.{Sum, Tail, Goes, Stops, StarryRead, FactorRead, ExpressionRead, PartRead, verdict, behind, ends_factor, ends_expression, is_close, closed, halted, EitherWay, unfit}
-use Rattle.compiler.specs.declared.readers.Reading.{Reading}
+use Rattle.compiler.specs.Reading.{Seen}
 use Rattle.compiler.proofs.Tails.{slice}
 use Rattle.compiler.proofs.Verdicts.{is_closing, place}
 use Rattle.compiler.proofs.Insides.{inside, size_inside, tail_inside, inner, within_all, behind_inside}
@@ -46,17 +46,17 @@ is_closed Bad h = absurd (true≢false (sym h))
 is_closed Long h = absurd (true≢false (sym h))
 
 -- closing reads no byte again
-pub closed_left : (s : List ℕ) (e : Reading) → (closed s e).left ≤ e.left
+pub closed_left : (s : List ℕ) (e : Seen) → (closed s e).left ≤ e.left
 unfolding closed
 closed_left s e = go (eqb e.number 0) (is_close (behind s e).token)
   where
     go : (z c : Bool) → (cond z (cond c (record { number = 0; left = e.left - (behind s e).used; part = e.part })
-        (halted (unfit (behind s e).token) (e.left - (behind s e).start) e.part.table)) e).left ≤ e.left
+        (halted (unfit (behind s e).token) (e.left - (behind s e).start))) e).left ≤ e.left
     go true true = omega arith
     go true false = omega arith
     go false c = omega arith
 
-module _ (s : List ℕ) (d : ℕ) (t : Table) (is_open : (next_token s).token ≡ Open) (shallow : d < 16) (e : Reading) (told : ExpressionRead ends_expression (slice s (next_token s).used) (d + 1) t e) where
+module _ (s : List ℕ) (d : ℕ) (t : Table) (is_open : (next_token s).token ≡ Open) (shallow : d < 16) (e : Seen) (told : ExpressionRead ends_expression (slice s (next_token s).used) (d + 1) t e) where
   less : (next_token s).start < (next_token s).used
   less = moves s Open is_open refl
 
@@ -78,7 +78,7 @@ module _ (s : List ℕ) (d : ℕ) (t : Table) (is_open : (next_token s).token �
   closed_if z c = rw (eq-eqb _ _ z, c) refl
 
   closed_not : e.number ≡ 0 → is_close (behind s e).token ≡ false
-      → closed s e ≡ halted (unfit (behind s e).token) (e.left - (behind s e).start) e.part.table
+      → closed s e ≡ halted (unfit (behind s e).token) (e.left - (behind s e).start)
   unfolding closed
   closed_not z c = rw (eq-eqb _ _ z, c) refl
 
@@ -98,14 +98,14 @@ module _ (s : List ℕ) (d : ℕ) (t : Table) (is_open : (next_token s).token �
       e).token _ ended c)
 
   -- what the reader of factors answers: the expression, closed, with its stars
-  module _ (q r : Reading) (is-closed-of : q ≡ closed s e) (starry : StarryRead s q r) where
+  module _ (q r : Seen) (is-closed-of : q ≡ closed s e) (starry : StarryRead s q r) where
     -- a refusal inside is a refusal of the whole
     refused_inside : (ns : List Name) → (e.number ≡ 0 → ⊥) → Stops (inside s) e (d + 1) (λ ks. wanting nothing_left ks) ns
         → (r.number ≡ 0 → ⊥) × ((l : Left) → Stops s r d (λ ks. wanting l ks) ns)
     refused_inside ns some stops =
         let q-is : q ≡ e = is-closed-of ∙ closed_stays some in
-        let r-is : r ≡ e = starry.refused_stays (λ z. some (ap (λ (x : Reading). x.number) (sym q-is) ∙ z)) ∙ q-is in
-        subst (λ (x : Reading). (x.number ≡ 0 → ⊥) × ((l : Left) → Stops s x d (λ ks. wanting l ks) ns)) (sym r-is)
+        let r-is : r ≡ e = starry.refused_stays (λ z. some (ap (λ (x : Seen). x.number) (sym q-is) ∙ z)) ∙ q-is in
+        subst (λ (x : Seen). (x.number ≡ 0 → ⊥) × ((l : Left) → Stops s x d (λ ks. wanting l ks) ns)) (sym r-is)
         (some, λ l text ks h k. enters text ks h k l ns ∙ stops text (l ∷ ks) (tail_inside text s h) (omega (arith, k)))
 
     -- so is anything but a `)` behind the expression
@@ -115,10 +115,10 @@ module _ (s : List ℕ) (d : ℕ) (t : Table) (is_open : (next_token s).token �
         → (r.number ≡ 0 → ⊥) × ((l : Left) → Stops s r d (λ ks. wanting l ks) ns)
     refused_unclosed ns ns' l' f z ended c goes =
         let T = (behind s e).token in
-        let q-is : q ≡ halted (unfit T) (e.left - (behind s e).start) e.part.table = is-closed-of ∙ closed_not z c in
-        let r-is : r ≡ halted (unfit T) (e.left - (behind s e).start) e.part.table
-        = starry.refused_stays (λ w. unfit_some T (ap (λ (x : Reading). x.number) (sym q-is) ∙ w)) ∙ q-is in
-        subst (λ (x : Reading). (x.number ≡ 0 → ⊥) × ((l : Left) → Stops s x d (λ ks. wanting l ks) ns)) (sym r-is) (
+        let q-is : q ≡ halted (unfit T) (e.left - (behind s e).start) = is-closed-of ∙ closed_not z c in
+        let r-is : r ≡ halted (unfit T) (e.left - (behind s e).start)
+        = starry.refused_stays (λ w. unfit_some T (ap (λ (x : Seen). x.number) (sym q-is) ∙ w)) ∙ q-is in
+        subst (λ (x : Seen). (x.number ≡ 0 → ⊥) × ((l : Left) → Stops s x d (λ ks. wanting l ks) ns)) (sym r-is) (
           unfit_some T,
           λ l text ks h k.
               enters text ks h k l ns ∙ goes text (l ∷ ks) (tail_inside text s h) (omega (arith, k)) ∙ stuck text h ended c l' l f ks ns',
@@ -132,12 +132,12 @@ module _ (s : List ℕ) (d : ℕ) (t : Table) (is_open : (next_token s).token �
         × ((l : Left) → Goes s r.left d (λ ks. wanting l ks) ns (λ ks. having l g ks) (ns ++ names g)))
     read_closed ns rs l' f z c read goes =
         let q-is : q ≡ record { number = 0; left = e.left - (behind s e).used; part = e.part } = is-closed-of ∙ closed_if z c in
-        let q-none : q.number ≡ 0 = ap (λ (x : Reading). x.number) q-is in
-        let q-left : q.left ≡ e.left - (behind s e).used = ap (λ (x : Reading). x.left) q-is in
+        let q-none : q.number ≡ 0 = ap (λ (x : Seen). x.number) q-is in
+        let q-left : q.left ≡ e.left - (behind s e).used = ap (λ (x : Seen). x.left) q-is in
         let whole = sum_to l' f in
         let g = star_times starry.times whole in
         let all : ns ++ names g ≡ ns ++ names whole = ap (λ (w : List Name). ns ++ w) (names_starred starry.times whole) in
-        let part-of : q.part ≡ part_of whole ns rs = ap (λ (x : Reading). x.part) q-is ∙ read.part in (
+        let part-of : q.part ≡ part_of whole ns rs = ap (λ (x : Seen). x.part) q-is ∙ read.part in (
           starry.number_stays ∙ q-none,
           (
             g,
@@ -156,7 +156,7 @@ module _ (s : List ℕ) (d : ℕ) (t : Table) (is_open : (next_token s).token �
         )
 
     left_inside : r.left ≤ e.left
-    left_inside = omega (arith, starry.within, closed_left s e, ap (λ (x : Reading). x.left) is-closed-of)
+    left_inside = omega (arith, starry.within, closed_left s e, ap (λ (x : Seen). x.left) is-closed-of)
 
     pub factor_open : FactorRead s d t r
     factor_open =

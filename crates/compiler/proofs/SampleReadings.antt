@@ -8,7 +8,7 @@ use Rattle.meaning.specs.Operations.{holds, added, distinct, distinct_after, num
 use Rattle.meaning.specs.Sets.{mem}
 use Rattle.meaning.specs.Positions.{size, can_be_empty, first, last, follows, row, rows_from, rows, start}
 use Rattle.text.specs.Classes.{class_of}
-use Rattle.text.specs.Tokens.{span, word_token, sign_token, token_from, next_token}
+use Rattle.text.specs.Tokens.{span, word_token, token_from, next_token}
 use Rattle.grammar.specs.Symbols.{items_by, items_within, items_from, items}
 use Rattle.grammar.specs.Machine.{want_step, have_step, start_step, step_to, depth_of, limit_at, names_on, at_end, limited, stepped, judge_item, judge_from, judge}
 use Rattle.table.specs.Marks.{among, none_twice, mark_of}
@@ -25,7 +25,7 @@ abbrev said : List Sample → List Shown
 said ss = map (λ (s : Sample). s.reads) ss
 
 all_computed : computed samples ≡ said samples
-unfolding compiled judge judge_from judge_item stepped limited at_end names_on limit_at depth_of step_to start_step want_step have_step items items_from items_within items_by next_token token_from span word_token sign_token class_of key same names holds added distinct distinct_after number_of mem size can_be_empty first last follows row rows_from rows start among none_twice mark_of padded bytes_of operations_of table_of
+unfolding compiled judge judge_from judge_item stepped limited at_end names_on limit_at depth_of step_to start_step want_step have_step items items_from items_within items_by next_token token_from span word_token class_of key same names holds added distinct distinct_after number_of mem size can_be_empty first last follows row rows_from rows start among none_twice mark_of padded bytes_of operations_of table_of
 all_computed = refl
 
 -- equal lists have equal elements

@@ -8,8 +8,8 @@ use Rattle.grammar.specs.Machine.{Left, State, onward, then_after}
 use Rattle.grammar.specs.Machine.State.{wanting, having}
 use Rattle.table.specs.declared.cells.Table.{Table}
 use Rattle.compiler.specs.Reading.{FactorRead, SequenceRead, Run, on_sum, then_read, behind, factor_from, ends_factor, ends_sequence}
-use Rattle.compiler.specs.declared.readers.Onward.TheVariants.{Ends}
-use Rattle.compiler.specs.declared.readers.Reading.{Reading}
+use Rattle.std.specs.Prelude.{None as Ends}
+use Rattle.compiler.specs.Reading.{Seen}
 use Rattle.compiler.proofs.Tails.{slice}
 use Rattle.compiler.proofs.Growing as growing
 use Rattle.compiler.proofs.Joining.{names_then, then_joined}
@@ -37,22 +37,22 @@ turn sum b = onward (on_sum sum b.0) b.1
 
 module _ (s : List ℕ) (d : ℕ) (t : Table) where
   -- a factor is a sequence
-  pub sequence_starts : (f : Reading) → FactorRead s d t f → SequenceRead ends_factor s d t f
+  pub sequence_starts : (f : Seen) → FactorRead s d t f → SequenceRead ends_factor s d t f
   sequence_starts f given =
       growing.starts wanted_run run_read in_order s d t wanted was_read (λ f. f) (λ sum. on_sum sum none) (λ f. (none, f)) ends_factor f given
       (λ a ks. refl) (λ a c ks. refl) (λ c. refl)
 
-  pub sequence_refused : (r : Reading) → SequenceRead ends_factor s d t r → (r.number ≡ 0 → ⊥) → SequenceRead ends_sequence s d t r
+  pub sequence_refused : (r : Seen) → SequenceRead ends_factor s d t r → (r.number ≡ 0 → ⊥) → SequenceRead ends_sequence s d t r
   sequence_refused r = growing.still_refused wanted_run run_read in_order s d t ends_factor ends_sequence r
 
-  module _ (q : Reading) (given : SequenceRead ends_factor s d t q) (z : q.number ≡ 0) where
+  module _ (q : Seen) (given : SequenceRead ends_factor s d t q) (z : q.number ≡ 0) where
     pub sequence_ends : factor_from s q.left ≡ Ends → SequenceRead ends_sequence s d t q
     sequence_ends e =
         growing.ends_there wanted_run run_read in_order s d t ends_factor q given z ends_sequence (no_factor_follows (behind s
         q).token _ _ e)
 
     -- another factor follows, at byte j
-    module _ (j : ℕ) (on : GoesOn onward s q j) (t' : Table) (so-far-is : t' ≡ q.part.table) (f : Reading) (told : FactorRead (slice s j) d t' f) where
+    module _ (j : ℕ) (on : GoesOn onward s q j) (t' : Table) (so-far-is : t' ≡ q.part.table) (f : Seen) (told : FactorRead (slice s j) d t' f) where
       pub factor_refused : (f.number ≡ 0 → ⊥) → SequenceRead ends_sequence s d t f
       factor_refused =
           growing.next_refused wanted_run run_read in_order s d t ends_factor q given z wanted was_read (λ f. f)
@@ -65,10 +65,10 @@ module _ (s : List ℕ) (d : ℕ) (t : Table) where
           turn j on.fits on.less (λ text h sum b. on.on text h (on_sum sum b.0) b.1)
           t' so-far-is f ends_factor told
 
-      pub sequence_grows : f.number ≡ 0 → (r : Reading) → r ≡ then_read q f → SequenceRead ends_factor s d t r
+      pub sequence_grows : f.number ≡ 0 → (r : Seen) → r ≡ then_read q f → SequenceRead ends_factor s d t r
       sequence_grows y r joined =
           growing.grows wanted_run run_read in_order s d t ends_factor q given z wanted was_read (λ f. f)
           turn j on.fits on.less (λ text h sum b. on.on text h (on_sum sum b.0) b.1)
           t' so-far-is f ends_factor told (λ b g. (some (in_order b), g)) (λ a b c ks. refl) (λ b c ns. names_then (in_order b) c ns) y r
-          (ap (λ (x : Reading). x.number) joined) (ap (λ (x : Reading). x.left) joined)
-          (λ ns rs b c is_b is_c. ap (λ (x : Reading). x.part) joined ∙ then_joined q (in_order b) ns rs is_b f c is_c)
+          (ap (λ (x : Seen). x.number) joined) (ap (λ (x : Seen). x.left) joined)
+          (λ ns rs b c is_b is_c. ap (λ (x : Seen). x.part) joined ∙ then_joined q (in_order b) ns rs is_b f c is_c)

@@ -1,6 +1,6 @@
 -- Stars, read one after the other: each takes the machine from a factor to the same factor starred once more.
 use mathlib.Core.Path.{◌≡◌, refl, sym, ap, ◌∙◌}
-use mathlib.Core.Bool.{Bool, true, false, not, true≢false}
+use mathlib.Core.Bool.{true}
 use mathlib.Core.List.{List}
 use Prim.Native.Nat.{ℕ, suc, ◌+◌, ◌-◌, ◌≤◌, ◌<◌}
 use native.Mathlib.Omega.{arith}
@@ -23,23 +23,21 @@ use Rattle.compiler.proofs.Verdicts.{is_asterisk, verdict_symbol}
 use Rattle.compiler.proofs.Endings.{moves}
 
 -- some stars were read from the front of s
-pub record StarsSoFar (s : List ℕ) (any : Bool) (used : ℕ) : Type 0 where
+pub record StarsSoFar (s : List ℕ) (used : ℕ) : Type 0 where
   pub within : used ≤ length s
   pub times : ℕ
-  pub any_if : any ≡ not (eqb times 0)
-  pub none_if : any ≡ false → used ≡ 0
+  pub some_if : eqb used 0 ≡ eqb times 0
   pub goes : (l : Left) (f : Expr) (d : ℕ) (ns : List Name)
       → Goes s (length s - used) d (λ ks. having l f ks) ns (λ ks. having l (star_times times f) ks) ns
 
-pub no_stars_yet : (s : List ℕ) → StarsSoFar s false 0
+pub no_stars_yet : (s : List ℕ) → StarsSoFar s 0
 unfolding star_times
 no_stars_yet s =
     let all : length s ≡ length s - 0 = omega arith in
     record {
       within = omega arith;
       times = 0;
-      any_if = refl;
-      none_if = λ _. refl;
+      some_if = refl;
       goes = λ l f d ns text ks h e. ap (λ (k : ℕ). verdict text k (having l f ks) ns) all;
     }
 
@@ -49,7 +47,7 @@ star_goes : (text s : List ℕ) → Tail text s → (next_token s).token ≡ Sta
 unfolding step_to have_step depth_of limit_at names_on stepped limited star_times
 star_goes text s h e l f ks ns = verdict_symbol text s h Star asterisk e (is_asterisk _) (having l f ks) ns
 
-module _ (s : List ℕ) (any : Bool) (used : ℕ) (far : StarsSoFar s any used) where
+module _ (s : List ℕ) (used : ℕ) (far : StarsSoFar s used) where
   at : List ℕ
   at = drop used s
 
@@ -70,14 +68,13 @@ module _ (s : List ℕ) (any : Bool) (used : ℕ) (far : StarsSoFar s any used) 
         let star = ap (λ (q : Read). q.token) (sym next_at) ∙ e in
         omega (arith, moves at Star star refl, ap (λ (q : Read). q.used) next_at)
 
-    pub star_more : r.token ≡ Star → StarsSoFar s true (used + r.used)
+    pub star_more : r.token ≡ Star → StarsSoFar s (used + r.used)
     unfolding star_times at
     star_more e =
         record {
           within = star_fits;
           times = suc far.times;
-          any_if = rw (ne_eqb (suc far.times) 0 (λ z. omega arith)) refl;
-          none_if = λ z. absurd (true≢false z);
+          some_if = rw (ne_eqb (used + r.used) 0 (λ z. omega (arith, star_is_some e)), ne_eqb (suc far.times) 0 (λ z. omega arith)) refl;
           goes = λ l f d ns text ks h n.
               let star = ap (λ (q : Read). q.token) (sym next_at) ∙ e in
               let left : length s - used - r.used ≡ length s - (used + r.used) = omega arith in
@@ -88,14 +85,13 @@ module _ (s : List ℕ) (any : Bool) (used : ℕ) (far : StarsSoFar s any used) 
               (ap (λ (q : Read). length at - q.used) (sym next_at) ∙ ap (λ (k : ℕ). k - r.used) size_at ∙ left);
         }
 
-    pub stars_end : ends_factor r.token ≡ true → StarsRead s (record { any = any; used = used })
+    pub stars_end : ends_factor r.token ≡ true → StarsRead s used
     unfolding at
     stars_end e =
         record {
           within = far.within;
           times = far.times;
-          any_if = far.any_if;
-          none_if = far.none_if;
+          some_if = far.some_if;
           ends = ap (λ (q : Read). ends_factor q.token) (sym next_at) ∙ e;
           goes = far.goes;
         }

@@ -29,12 +29,12 @@ use Rattle.parts.specs.Parts.{completed}
 use Rattle.parts.specs.Progress.{noted, Fine, part_of}
 use Rattle.parts.proofs.NameParts.{nothing_fine}
 use Rattle.parts.proofs.Completed.{completed_part}
-use Rattle.compiler.specs.Reading.{Sum, Tail, Goes, ExpressionRead, PartRead, EitherWay, Stops, verdict, behind, ends_expression, is_path, is_end, is_text_end, refused_at, concluded, end_by, ended, unfit}
+use Rattle.compiler.specs.Reading.{Sum, Tail, Goes, ExpressionRead, PartRead, EitherWay, Stops, verdict, behind, made, ends_expression, is_path, is_end, is_text_end, refused_at, concluded, end_by, ended, unfit}
 use Rattle.compiler.specs.Compiling.{Compiles}
 use Rattle.compiler.specs.Computed.{answered, compiled}
-use Rattle.compiler.specs.declared.readers.Reading.{Reading}
+use Rattle.compiler.specs.Reading.{Seen}
 use Rattle.compiler.specs.declared.replies.Compiled.{Compiled}
-use Rattle.compiler.specs.declared.replies.Reply.TheVariants.{Accepted as Accepts}
+use Rattle.std.specs.Prelude.{Ok}
 use Rattle.compiler.proofs.CompiledTexts.{compiles}
 use Rattle.compiler.proofs.Tails.{slice, tail_whole, tail_drop}
 use Rattle.compiler.proofs.Insides.{inside, size_inside, tail_inside, inner, within_all, behind_inside}
@@ -151,7 +151,7 @@ module _ (text : List ℕ) (short : length text ≤ 4096) where
       told) ∙ other)))))
 
   -- the text starts with `path`, and e was read behind it
-  module _ (is-path-token : (next_token text).token ≡ Path) (t : Table) (e : Reading) (is-zeros : t ≡ zeros)
+  module _ (is-path-token : (next_token text).token ≡ Path) (t : Table) (e : Seen) (is-zeros : t ≡ zeros)
       (told : ExpressionRead ends_expression (slice text (next_token text).used) 0 t e) where
     enters : verdict text (length text) outside [] ≡ verdict text (length (inside text)) (wanting nothing_left []) []
     unfolding step_to start_step depth_of limit_at names_on stepped limited
@@ -217,7 +217,7 @@ module _ (text : List ℕ) (short : length text ≤ 4096) where
         by : (b : Bool) → is_text_end (next_token last).token ≡ b
             → concluded last (length text - e.left + (behind text e).used) e.part ≡ answered (verdict text (length last) (finished w) ns)
         by true is =
-            rw is (ap (λ (t : Table). record { reply = Accepts; table = t }) (ap completed part ∙ completed_part w few))
+            rw is (ap (λ (t : Table). made (Ok t)) (ap completed part ∙ completed_part w few))
             ∙ ap answered (sym (verdict_ends text last tail_last (ends_the_text (next_token last).token is) (finished w) ns))
         by false is =
             rw is (ap (refused_at (unfit (next_token last).token)) (sym place_last))
@@ -259,10 +259,10 @@ module _ (text : List ℕ) (short : length text ≤ 4096) where
             (tail_whole text)) refl))
 
   -- as the program has it: u is the first token, which it reads
-  pub starts_with_path : (u : Read) → u ≡ next_token text → u.token ≡ Path → (t : Table) (e : Reading) → t ≡ zeros
+  pub starts_with_path : (u : Read) → u ≡ next_token text → u.token ≡ Path → (t : Table) (e : Seen) → t ≡ zeros
       → ExpressionRead ends_expression (slice text u.used) 0 t e → (r : Compiled) → r ≡ ended text e → r ≡ compiled text
   starts_with_path u told =
       subst
       (λ (v : Read).
-      v.token ≡ Path → (t : Table) (e : Reading) → t ≡ zeros → ExpressionRead ends_expression (slice text v.used) 0 t e
+      v.token ≡ Path → (t : Table) (e : Seen) → t ≡ zeros → ExpressionRead ends_expression (slice text v.used) 0 t e
       → (r : Compiled) → r ≡ ended text e → r ≡ compiled text) (sym told) compile_path

@@ -1,5 +1,5 @@
 -- The contract of `compile`.
-use Rattle.std.specs.Prelude.{◌≡◌, true, List, ◌↔◌, ℕ}
+use Rattle.std.specs.Prelude.{◌≡◌, true, List, ◌↔◌, ℕ, Result, Ok, Err}
 use Rattle.meaning.specs.Names.{Name}
 use Rattle.meaning.specs.Words.{Expr, Begins}
 use Rattle.grammar.specs.Refusals.{Accepted, Refused}
@@ -8,8 +8,8 @@ use Rattle.table.specs.Following.{table_permits}
 use Rattle.table.specs.Soundness.{Sound}
 use Rattle.table.specs.Rules.{table_of}
 use Rattle.table.specs.declared.cells.Table.{Table}
-use Rattle.compiler.specs.declared.replies.Reply.{Reply}
-use Rattle.compiler.specs.declared.replies.Reply.TheVariants.{Accepted as Accepts, Refused as Refuses}
+use Rattle.text.specs.Faults.{number_of}
+use Rattle.compiler.specs.declared.replies.Refusal.{Refusal}
 use Rattle.compiler.specs.declared.replies.Compiled.{Compiled}
 
 -- document 01's number and values for each case of the reply
@@ -17,9 +17,12 @@ pub data Answer : Type 0 where
   accepted : Answer
   refused : (number place : ℕ) → Answer
 
+abbrev pub Reply : Type 0
+Reply = Result (Unit {0}) Refusal
+
 abbrev pub answer : Reply → Answer
-answer Accepts = accepted
-answer (Refuses r) = refused r.number r.place
+answer (Ok u) = accepted
+answer (Err r) = refused (number_of r.fault) r.place
 
 -- what is promised of the table of an accepted text, whose expression is e
 pub record TableOfText (e : Expr) (t : Table) : Type 0 where

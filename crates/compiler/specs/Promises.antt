@@ -2,7 +2,7 @@
 -- the same name in small letters.
 use Rattle.std.specs.Prelude.{◌≡◌, List, ℕ}
 use Rattle.compiler.specs.Compiling.{answer, Compiles}
-use Rattle.compiler.specs.declared.replies.Reply.{Reply}
+use Rattle.compiler.specs.Compiling.{Reply}
 use Rattle.compiler.specs.declared.replies.Compiled.{Compiled}
 
 -- the paper's number and values tell the cases of a reply apart

@@ -1,158 +1,99 @@
 // The three readers, and the compiler above them. Each reads from the front of what is left of the text and says how many bytes it
 // leaves unread, so that the answer of what it calls last is its own.
 ghost use Rattle.std.specs.Prelude.{◌≡◌, ◌+◌, ◌≤◌, length};
-ghost use Rattle.compiler.specs.Reading.{unfit, halted, closed, then_read, or_read, factor_from, sequence_from, ends_sequence, ends_expression, refused_at, concluded, ended, StarsRead, StarryRead, FactorRead, SequenceRead, ExpressionRead};
+ghost use Rattle.compiler.specs.Reading.{fault_of, seen, read_so, closed, then_read, or_read, factor_from, sequence_from, ends_sequence, ends_expression, made, concluded, ended, StarsRead, StarryRead, FactorRead, SequenceRead, ExpressionRead};
+ghost use Rattle.compiler.specs.Computed.{compiled};
 ghost use Rattle.compiler.specs.Compiling.{Compiles};
 
-use crate::replies::{Compiled, Refusal, Reply};
+use crate::replies::{Compiled, Refusal};
 use parts::joining::{Part, complete, either_part, star_part, then_part};
 use parts::placing::place;
 use table::cells::{Table, table_of_zeros};
+use text::faults::Fault;
 use text::tokens::{Token, next};
 
-// A part, with `left` bytes unread behind it; or, where the number is not 0, a refusal with `left` bytes from its place on.
+// A part, with `left` bytes unread behind it.
 #[derive(Clone, Copy)]
 struct Reading {
-    number: u8,
     left: usize,
     part: Part,
 }
 
-// Whether a sequence or a sum goes on, and at which byte.
+// Why reading ends, with `left` bytes from the place on.
 #[derive(Clone, Copy)]
-enum Onward {
-    At(usize),
-    Ends,
+struct Halt {
+    fault: Fault,
+    left: usize,
 }
 
-// Whether any `*` was read, and how many bytes were used up by them.
-#[derive(Clone, Copy)]
-struct Starring {
-    any: bool,
-    used: usize,
-}
-
-// The number by which a token is refused where it does not fit.
-fn refusal_of(token: Token) -> u8
-    ensures { result ≡ unfit token }
+// The fault of a token that does not fit where it stands.
+fn fault_of(token: Token) -> Fault
+    ensures { result ≡ fault_of token }
 {
     match token {
-        Token::Semicolon => 4,
-        Token::Plus => 4,
-        Token::Star => 4,
-        Token::Open => 4,
-        Token::Close => 4,
-        Token::Path => 4,
-        Token::End => 4,
-        Token::Name(_) => 4,
-        Token::TextEnd => 4,
-        Token::Bad => 2,
-        Token::Long => 3,
-    }
-}
-
-// A refusal.
-fn halt(number: u8, left: usize, t: Table) -> Reading
-    ensures { result ≡ halted number left t }
-{
-    Reading {
-        number: number,
-        left: left,
-        part: Part {
-            empty: false,
-            first: 0,
-            last: 0,
-            table: t,
-        },
+        Token::Bad => Fault::BadByte,
+        Token::Long => Fault::LongName,
+        _ => Fault::Misplaced,
     }
 }
 
 // l and then r, which was read after l.
 fn then_read(l: Reading, r: Reading) -> Reading
-    ensures { result ≡ then_read l r }
+    ensures { read_so result ≡ then_read (read_so l) (read_so r) }
 {
-    let a = l.part;
-    let b = r.part;
-    let part = then_part(a, b);
     Reading {
-        number: r.number,
         left: r.left,
-        part: part,
+        part: then_part(l.part, r.part),
     }
 }
 
 // l or r, which was read after l.
 fn or_read(l: Reading, r: Reading) -> Reading
-    ensures { result ≡ or_read l r }
+    ensures { read_so result ≡ or_read (read_so l) (read_so r) }
 {
-    let a = l.part;
-    let b = r.part;
-    let part = either_part(a, b);
     Reading {
-        number: r.number,
         left: r.left,
-        part: part,
+        part: either_part(l.part, r.part),
     }
 }
 
-// The table of all that was read so far.
-fn table_of(r: Reading) -> Table
-    ensures { result ≡ r.part.table }
-{
-    let part = r.part;
-    part.table
-}
-
 // Where the next factor of a sequence starts: behind a `;`, or at once.
-fn next_factor(s: &[u8], left: usize) -> Onward
+fn next_factor(s: &[u8], left: usize) -> Option<usize>
     requires { left ≤ length s.now }
     ensures { result ≡ factor_from s.now left }
 {
     let k = s.len() - left;
     let r = next(&s[k..]);
-    let token = r.token;
-    match token {
-        Token::Semicolon => Onward::At(k + r.used),
-        Token::Name(_) => Onward::At(k),
-        Token::Open => Onward::At(k),
-        _ => Onward::Ends,
+    match r.token {
+        Token::Semicolon => Some(k + r.used),
+        Token::Name(_) | Token::Open => Some(k),
+        _ => None,
     }
 }
 
 // Where the next sequence of a sum starts: behind a `+`.
-fn next_sequence(s: &[u8], left: usize) -> Onward
+fn next_sequence(s: &[u8], left: usize) -> Option<usize>
     requires { left ≤ length s.now }
     ensures { result ≡ sequence_from s.now left }
 {
     let k = s.len() - left;
     let r = next(&s[k..]);
-    let token = r.token;
-    match token {
-        Token::Plus => Onward::At(k + r.used),
-        _ => Onward::Ends,
+    match r.token {
+        Token::Plus => Some(k + r.used),
+        _ => None,
     }
 }
 
-// Any number of `*`, in a loop: thousands of them must not deepen the stack.
-fn stars(s: &[u8]) -> Starring
+// How many bytes any number of `*` use up, in a loop: thousands of them must not deepen the stack.
+fn stars(s: &[u8]) -> usize
     ensures { StarsRead s.now result }
 {
-    let mut any = false;
-    let mut used: usize = 0;
+    let mut used = 0;
     loop {
         let r = next(&s[used..]);
-        let token = r.token;
-        match token {
-            Token::Star => {
-                any = true;
-                used += r.used;
-            }
-            _ => {
-                return Starring {
-                    any: any,
-                    used: used,
-                };
-            }
+        match r.token {
+            Token::Star => used += r.used,
+            _ => return used,
         }
     }
 }
@@ -160,215 +101,178 @@ fn stars(s: &[u8]) -> Starring
 // p, with the stars that may follow it.
 fn starry(s: &[u8], p: Reading) -> Reading
     requires { p.left ≤ length s.now }
-    ensures { StarryRead s.now p result }
+    ensures { StarryRead s.now (read_so p) (read_so result) }
 {
-    if p.number != 0 {
+    let k = s.len() - p.left;
+    let used = stars(&s[k..]);
+    if used == 0 {
         return p;
     }
-    let left = p.left;
-    let k = s.len() - left;
-    let starring = stars(&s[k..]);
-    if starring.any {
-        let plain = p.part;
-        let part = star_part(plain);
-        return Reading {
-            number: 0,
-            left: left - starring.used,
-            part: part,
-        };
+    Reading {
+        left: p.left - used,
+        part: star_part(p.part),
     }
-    p
 }
 
 // e, which a `)` has to follow.
-fn close(s: &[u8], e: Reading) -> Reading
+fn close(s: &[u8], e: Reading) -> Result<Reading, Halt>
     requires { e.left ≤ length s.now }
-    ensures { result ≡ closed s.now e }
+    ensures { seen result ≡ closed s.now (read_so e) }
 {
-    if e.number != 0 {
-        return e;
-    }
-    let left = e.left;
-    let part = e.part;
-    let k = s.len() - left;
+    let k = s.len() - e.left;
     let r = next(&s[k..]);
-    let token = r.token;
-    match token {
-        Token::Close => Reading {
-            number: 0,
-            left: left - r.used,
-            part: part,
-        },
-        _ => {
-            let t = part.table;
-            halt(refusal_of(token), left - r.start, t)
-        }
+    match r.token {
+        Token::Close => Ok(Reading {
+            left: e.left - r.used,
+            part: e.part,
+        }),
+        token => Err(Halt {
+            fault: fault_of(token),
+            left: e.left - r.start,
+        }),
     }
 }
 
 // An expression: a sequence, and another behind each `+`.
 #[cycle(expression_factor_sequence)]
-fn expression(s: &[u8], depth: usize, t: Table) -> Reading
-    ensures { ExpressionRead ends_expression s.now depth t result }
+fn expression(s: &[u8], depth: usize, t: Table) -> Result<Reading, Halt>
+    ensures { ExpressionRead ends_expression s.now depth t (seen result) }
 {
-    let mut e = sequence(s, depth, t);
-    if e.number != 0 {
-        return e;
+    let mut e = sequence(s, depth, t)?;
+    while let Some(from) = next_sequence(s, e.left) {
+        let q = sequence(&s[from..], depth, e.part.table)?;
+        e = or_read(e, q);
     }
-    loop {
-        let left = e.left;
-        let onward = next_sequence(s, left);
-        match onward {
-            Onward::At(from) => {
-                let q = sequence(&s[from..], depth, table_of(e));
-                if q.number != 0 {
-                    return q;
-                }
-                e = or_read(e, q);
-            }
-            Onward::Ends => {
-                return e;
-            }
-        }
-    }
+    Ok(e)
 }
 
 // A sequence: a factor, and another behind each `;` or at once.
 #[cycle(expression_factor_sequence)]
-fn sequence(s: &[u8], depth: usize, t: Table) -> Reading
-    ensures { SequenceRead ends_sequence s.now depth t result }
+fn sequence(s: &[u8], depth: usize, t: Table) -> Result<Reading, Halt>
+    ensures { SequenceRead ends_sequence s.now depth t (seen result) }
 {
-    let mut q = factor(s, depth, t);
-    if q.number != 0 {
-        return q;
+    let mut q = factor(s, depth, t)?;
+    while let Some(from) = next_factor(s, q.left) {
+        let f = factor(&s[from..], depth, q.part.table)?;
+        q = then_read(q, f);
     }
-    loop {
-        let left = q.left;
-        let onward = next_factor(s, left);
-        match onward {
-            Onward::At(from) => {
-                let f = factor(&s[from..], depth, table_of(q));
-                if f.number != 0 {
-                    return f;
-                }
-                q = then_read(q, f);
-            }
-            Onward::Ends => {
-                return q;
-            }
-        }
-    }
+    Ok(q)
 }
 
 // A factor: a name, or an expression in parentheses, with the stars that may follow.
 #[cycle(expression_factor_sequence)]
-fn factor(s: &[u8], depth: usize, t: Table) -> Reading
-    ensures { FactorRead s.now depth t result }
+fn factor(s: &[u8], depth: usize, t: Table) -> Result<Reading, Halt>
+    ensures { FactorRead s.now depth t (seen result) }
 {
     let n = s.len();
     let r = next(s);
-    let token = r.token;
     let start = r.start;
-    match token {
-        Token::Name(m) => {
-            let end = start + m;
-            let p = place(t, &s[start..end]);
-            if p.number != 0 {
-                return halt(p.number, n - start, t);
+    match r.token {
+        Token::Name(m) => match place(t, &s[start..start + m]) {
+            Ok(part) => {
+                let left = n - r.used;
+                Ok(starry(s, Reading { left, part }))
             }
-            let part = p.part;
-            starry(
-                s,
-                Reading {
-                    number: 0,
-                    left: n - r.used,
-                    part: part,
-                },
-            )
-        }
+            Err(fault) => Err(Halt {
+                fault,
+                left: n - start,
+            }),
+        },
         Token::Open => {
             if 16 <= depth {
-                return halt(5, n - start, t);
+                return Err(Halt {
+                    fault: Fault::OpenParentheses,
+                    left: n - start,
+                });
             }
             let from = r.used;
-            let e = expression(&s[from..], depth + 1, t);
-            starry(s, close(s, e))
+            let e = expression(&s[from..], depth + 1, t)?;
+            let closed = close(s, e)?;
+            Ok(starry(s, closed))
         }
-        _ => halt(refusal_of(token), n - start, t),
-    }
-}
-
-// A refused compile: the table of zeros.
-fn refuse(number: u8, place: usize) -> Compiled
-    ensures { result ≡ refused_at number place }
-{
-    let table = table_of_zeros();
-    Compiled {
-        reply: Reply::Refused(Refusal {
-            number: number,
-            place: place,
+        token => Err(Halt {
+            fault: fault_of(token),
+            left: n - start,
         }),
-        table: table,
     }
 }
 
 // The whole path, behind which nothing may stand; s is what is left, from place `at` on.
-fn conclude(s: &[u8], at: usize, p: Part) -> Compiled
+fn conclude(s: &[u8], at: usize, p: Part) -> Result<Table, Refusal>
     requires { at + length s.now ≤ 4096 }
-    ensures { result ≡ concluded s.now at p }
+    ensures { made result ≡ concluded s.now at p }
 {
     let r = next(s);
-    let token = r.token;
-    match token {
-        Token::TextEnd => {
-            let table = complete(p);
-            Compiled {
-                reply: Reply::Accepted,
-                table: table,
-            }
-        }
-        _ => refuse(refusal_of(token), at + r.start),
+    match r.token {
+        Token::TextEnd => Ok(complete(p)),
+        token => Err(Refusal {
+            fault: fault_of(token),
+            place: at + r.start,
+        }),
     }
 }
 
 // The expression of the text, behind which `end` has to stand.
-fn end(text: &[u8], e: Reading) -> Compiled
+fn end(text: &[u8], e: Reading) -> Result<Table, Refusal>
     requires { (e.left ≤ length text.now) × (length text.now ≤ 4096) }
-    ensures { result ≡ ended text.now e }
+    ensures { made result ≡ ended text.now (read_so e) }
 {
-    let left = e.left;
-    let k = text.len() - left;
-    if e.number != 0 {
-        return refuse(e.number, k);
-    }
-    let part = e.part;
+    let k = text.len() - e.left;
     let r = next(&text[k..]);
-    let token = r.token;
-    match token {
+    match r.token {
         Token::End => {
             let from = k + r.used;
-            conclude(&text[from..], from, part)
+            conclude(&text[from..], from, e.part)
         }
-        _ => refuse(refusal_of(token), k + r.start),
+        token => Err(Refusal {
+            fault: fault_of(token),
+            place: k + r.start,
+        }),
+    }
+}
+
+// The table of a text's path, or why the text is refused.
+
+fn read(text: &[u8]) -> Result<Table, Refusal>
+    ensures { made result ≡ compiled text.now }
+{
+    if 4096 < text.len() {
+        return Err(Refusal {
+            fault: Fault::LongText,
+            place: 4096,
+        });
+    }
+    let r = next(text);
+    match r.token {
+        Token::Path => {
+            let from = r.used;
+            match expression(&text[from..], 0, table_of_zeros()) {
+                Ok(e) => end(text, e),
+                Err(halt) => Err(Refusal {
+                    fault: halt.fault,
+                    place: text.len() - halt.left,
+                }),
+            }
+        }
+        token => Err(Refusal {
+            fault: fault_of(token),
+            place: r.start,
+        }),
     }
 }
 
 // From the text of a path to its table: the only way in.
-#[tactic(auto, using(crate::proofs::Wholes::long_compiles))]
 pub fn compile(text: &[u8]) -> Compiled
     ensures { Compiles text.now result }
 {
-    if 4096 < text.len() {
-        return refuse(1, 4096);
-    }
-    let r = next(text);
-    let token = r.token;
-    match token {
-        Token::Path => {
-            let from = r.used;
-            let e = expression(&text[from..], 0, table_of_zeros());
-            end(text, e)
-        }
-        _ => refuse(refusal_of(token), r.start),
+    match read(text) {
+        Ok(table) => Compiled {
+            reply: Ok(()),
+            table,
+        },
+        Err(refusal) => Compiled {
+            reply: Err(refusal),
+            table: table_of_zeros(),
+        },
     }
 }

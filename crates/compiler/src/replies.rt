@@ -1,22 +1,17 @@
 // What compiling a text gives.
 use table::cells::Table;
+use text::faults::Fault;
 
-// A number of refusal (document 01, "Numbers of refusal", 1 to 7) and the place in the text.
-#[derive(Clone, Copy)]
+// What is wrong with the text, and at which place of it.
+#[derive(Clone, Copy, Debug, PartialEq, Eq)]
 pub struct Refusal {
-    pub number: u8,
+    pub fault: Fault,
     pub place: usize,
 }
 
-#[derive(Clone, Copy)]
-pub enum Reply {
-    Accepted,
-    Refused(Refusal),
-}
-
-// The reply, and beside it the table; where the text is refused, the table of zeros.
+// Whether the text is accepted, and beside it the table; where the text is refused, the table of zeros.
 #[derive(Clone, Copy)]
 pub struct Compiled {
-    pub reply: Reply,
+    pub reply: Result<(), Refusal>,
     pub table: Table,
 }

@@ -1,6 +1,7 @@
 -- The laws that the proofs of the functions share, and what is proved of the definitions.
 pub mod Table
 pub mod Bytes
+pub mod FaultNumbers
 pub mod Spans
 pub mod Sames
 pub mod Ways

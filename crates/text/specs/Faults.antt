@@ -1,5 +1,5 @@
 -- "Numbers of refusal", 1 to 7: the number of each fault.
-use Rattle.std.specs.Prelude.{ℕ}
+use Rattle.std.specs.Prelude.{ℕ, cond, eqb}
 use Rattle.text.specs.declared.faults.Fault.{Fault}
 use Rattle.text.specs.declared.faults.Fault.TheVariants.{LongText, BadByte, LongName, Misplaced, OpenParentheses, Positions, Names}
 
@@ -18,3 +18,13 @@ number_of OpenParentheses = 5
 number_of Positions = 6
 -- "33rd distinct name"
 number_of Names = 7
+
+-- the fault of each number, for those who reckon with numbers
+abbrev pub numbered : ℕ → Fault
+numbered n =
+    cond (eqb n 1) LongText
+    (cond (eqb n 2) BadByte
+    (cond (eqb n 3) LongName
+    (cond (eqb n 4) Misplaced
+    (cond (eqb n 5) OpenParentheses
+    (cond (eqb n 6) Positions Names)))))

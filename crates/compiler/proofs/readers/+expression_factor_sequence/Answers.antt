@@ -1,224 +1,174 @@
 -- The readers' cycle: what the code leaves to be shown, each by a lemma of Expressions, Sequences, FactorPaths or Onwards.
-use mathlib.Core.Path.{sym, ap, ◌∙◌}
-use native.Mathlib.Omega.{arith}
+use Rattle.std.proofs.Common.{arith, rules, ◌≡◌, ◌-◌, length, ℕ, refl, sym, ap, ◌∙◌}
 use borrow.Author.Rules.{part_to_end}
 use lib.ListN.{length-drop}
-use Rattle.compiler.specs.declared.readers.Reading.{Reading}
-use Rattle.compiler.proofs.Onwards.{sequence_follows}
+use Rattle.text.proofs.FaultNumbers.{fault_some}
+use Rattle.parts.proofs.NameParts.{refused_by}
+use Rattle.compiler.specs.Reading.{read_so, halted}
+use Rattle.compiler.proofs.Onwards.{sequence_follows, factor_follows}
 use Rattle.compiler.proofs.Expressions as expressions
-use Rattle.compiler.proofs.Onwards.{factor_follows}
 use Rattle.compiler.proofs.Sequences as sequences
 use Rattle.compiler.proofs.Arms.{but_factor, begins_no_factor}
 use Rattle.compiler.proofs.FactorPaths as factors
+use Rattle.compiler.proofs.Refusing.{halts_by, halted_some}
+use Rattle.compiler.proofs.Starry.{starry_refused}
 use Rattle.compiler.proofs.readers.+expression_factor_sequence.Goals as goal
 
-pub expression-next_sequence-onward-requires : goal.expression-next_sequence-onward-requires
-expression-next_sequence-onward-requires t c =
-    let given = c.loop-from.invariant.0 c.args.t (expressions.expression_starts c.args.s.now c.args.depth c.args.t c.sequence-e.result c.sequence-e.ensures) in
+pub expression-next_sequence-requires : goal.expression-next_sequence-requires
+expression-next_sequence-requires t c =
+    let given = c.loop-from.invariant c.args.t (expressions.expression_starts c.args.s.now c.args.depth c.args.t (read_so c.in_ok-e.e) c.in_ok-e.ensures) in
     given.within
 
 pub expression-slice_bounds-sequence-count : goal.expression-slice_bounds-sequence-count
 expression-slice_bounds-sequence-count t c =
-    let given = c.loop-from.invariant.0 c.args.t (expressions.expression_starts c.args.s.now c.args.depth c.args.t c.sequence-e.result c.sequence-e.ensures) in
-    let on = sequence_follows c.args.s.now c.loop-from.e given.within c.in-At.from (sym c.next_sequence-onward.ensures ∙ c.in-At.is) in
+    let given = c.loop-from.invariant c.args.t (expressions.expression_starts c.args.s.now c.args.depth c.args.t (read_so c.in_ok-e.e) c.in_ok-e.ensures) in
+    let on = sequence_follows c.args.s.now (read_so c.loop-from.e) given.within c.in-Some.from (sym c.next_sequence.ensures ∙ c.in-Some.is) in
     on.fits
 
 pub expression-slice_bounds-sequence-start : goal.expression-slice_bounds-sequence-start
 expression-slice_bounds-sequence-start t c =
-    let given = c.loop-from.invariant.0 c.args.t (expressions.expression_starts c.args.s.now c.args.depth c.args.t c.sequence-e.result c.sequence-e.ensures) in
-    let on = sequence_follows c.args.s.now c.loop-from.e given.within c.in-At.from (sym c.next_sequence-onward.ensures ∙ c.in-At.is) in
+    let given = c.loop-from.invariant c.args.t (expressions.expression_starts c.args.s.now c.args.depth c.args.t (read_so c.in_ok-e.e) c.in_ok-e.ensures) in
+    let on = sequence_follows c.args.s.now (read_so c.loop-from.e) given.within c.in-Some.from (sym c.next_sequence.ensures ∙ c.in-Some.is) in
     on.fits
 
-pub expression-returns-then-q-ne0 : goal.expression-returns-then-q-ne0
-expression-returns-then-q-ne0 t c =
-    let given = c.loop-from.invariant.0 c.args.t (expressions.expression_starts c.args.s.now c.args.depth c.args.t c.sequence-e.result c.sequence-e.ensures) in
-    let on = sequence_follows c.args.s.now c.loop-from.e given.within c.in-At.from (sym c.next_sequence-onward.ensures ∙ c.in-At.is) in
-    expressions.sequence_is_refused
-    c.args.s.now
-    c.args.depth
-    c.args.t
-    c.loop-from.e
-    given
-    c.loop-from.invariant.1
-    c.in-At.from
-    on _ c.table_of.ensures _
-    c.sequence-q.ensures c.if-q-ne0.true
+pub expression-returns-in_err-q : goal.expression-returns-in_err-q
+expression-returns-in_err-q t c =
+    let given = c.loop-from.invariant c.args.t (expressions.expression_starts c.args.s.now c.args.depth c.args.t (read_so c.in_ok-e.e) c.in_ok-e.ensures) in
+    let on = sequence_follows c.args.s.now (read_so c.loop-from.e) given.within c.in-Some.from (sym c.next_sequence.ensures ∙ c.in-Some.is) in
+    let same : c.from_residual-in_err-q.result ≡ c.sequence-in-Some.result = search rules in
+    rw same
+    (expressions.sequence_is_refused c.args.s.now c.args.depth c.args.t (read_so c.loop-from.e) given refl c.in-Some.from on _ refl _
+    c.sequence-in-Some.ensures (halted_some _ _ c.in_err-q.was))
 
 pub expression-loop-from-preserved : goal.expression-loop-from-preserved
 expression-loop-from-preserved t c =
-    let given = c.loop-from.invariant.0 c.args.t (expressions.expression_starts c.args.s.now c.args.depth c.args.t c.sequence-e.result c.sequence-e.ensures) in
-    let on = sequence_follows c.args.s.now c.loop-from.e given.within c.in-At.from (sym c.next_sequence-onward.ensures ∙ c.in-At.is) in (
-      λ t h. expressions.expression_grows
-          c.args.s.now
-          c.args.depth
-          t c.loop-from.e
-          (c.loop-from.invariant.0 t h)
-          c.loop-from.invariant.1
-          c.in-At.from on _ c.table_of.ensures _
-          c.sequence-q.ensures c.if-q-ne0.false _ c.or_read-e.ensures,
-      ap (λ (r : Reading).
-          r.number) c.or_read-e.ensures ∙ c.if-q-ne0.false,
-    )
+    let given = c.loop-from.invariant c.args.t (expressions.expression_starts c.args.s.now c.args.depth c.args.t (read_so c.in_ok-e.e) c.in_ok-e.ensures) in
+    let on = sequence_follows c.args.s.now (read_so c.loop-from.e) given.within c.in-Some.from (sym c.next_sequence.ensures ∙ c.in-Some.is) in
+    λ t' h.
+    expressions.expression_grows c.args.s.now c.args.depth t' (read_so c.loop-from.e) (c.loop-from.invariant t' h) refl c.in-Some.from on _ refl
+    (read_so c.in_ok-q.q) c.in_ok-q.ensures refl _ c.or_read-e.ensures
 
-pub expression-returns-in-Ends : goal.expression-returns-in-Ends
-expression-returns-in-Ends t c =
-    let given = c.loop-from.invariant.0 c.args.t (expressions.expression_starts c.args.s.now c.args.depth c.args.t c.sequence-e.result c.sequence-e.ensures) in
-    expressions.expression_ends c.args.s.now
-    c.args.depth
-    c.args.t c.loop-from.e
-    given c.loop-from.invariant.1
-    (sym c.next_sequence-onward.ensures ∙ c.in-Ends.is)
+pub expression-returns : goal.expression-returns
+expression-returns t c =
+    let given = c.loop-from.invariant c.args.t (expressions.expression_starts c.args.s.now c.args.depth c.args.t (read_so c.in_ok-e.e) c.in_ok-e.ensures) in
+    expressions.expression_ends c.args.s.now c.args.depth c.args.t (read_so c.loop-from.e) given refl
+    (sym c.next_sequence.ensures ∙ c.in_default.is)
 
-pub sequence-next_factor-onward-requires : goal.sequence-next_factor-onward-requires
-sequence-next_factor-onward-requires t c =
-    let given = c.loop-from.invariant.0 c.args.t (sequences.sequence_starts c.args.s.now c.args.depth c.args.t c.factor-q.result c.factor-q.ensures) in
+pub sequence-next_factor-requires : goal.sequence-next_factor-requires
+sequence-next_factor-requires t c =
+    let given = c.loop-from.invariant c.args.t (sequences.sequence_starts c.args.s.now c.args.depth c.args.t (read_so c.in_ok-q.q) c.in_ok-q.ensures) in
     given.within
 
 pub sequence-slice_bounds-factor-count : goal.sequence-slice_bounds-factor-count
 sequence-slice_bounds-factor-count t c =
-    let given = c.loop-from.invariant.0 c.args.t (sequences.sequence_starts c.args.s.now c.args.depth c.args.t c.factor-q.result c.factor-q.ensures) in
-    let on = factor_follows c.args.s.now c.loop-from.q given.within c.in-At.from (sym c.next_factor-onward.ensures ∙ c.in-At.is) in
+    let given = c.loop-from.invariant c.args.t (sequences.sequence_starts c.args.s.now c.args.depth c.args.t (read_so c.in_ok-q.q) c.in_ok-q.ensures) in
+    let on = factor_follows c.args.s.now (read_so c.loop-from.q) given.within c.in-Some.from (sym c.next_factor.ensures ∙ c.in-Some.is) in
     on.fits
 
 pub sequence-slice_bounds-factor-start : goal.sequence-slice_bounds-factor-start
 sequence-slice_bounds-factor-start t c =
-    let given = c.loop-from.invariant.0 c.args.t (sequences.sequence_starts c.args.s.now c.args.depth c.args.t c.factor-q.result c.factor-q.ensures) in
-    let on = factor_follows c.args.s.now c.loop-from.q given.within c.in-At.from (sym c.next_factor-onward.ensures ∙ c.in-At.is) in
+    let given = c.loop-from.invariant c.args.t (sequences.sequence_starts c.args.s.now c.args.depth c.args.t (read_so c.in_ok-q.q) c.in_ok-q.ensures) in
+    let on = factor_follows c.args.s.now (read_so c.loop-from.q) given.within c.in-Some.from (sym c.next_factor.ensures ∙ c.in-Some.is) in
     on.fits
 
-pub sequence-returns-then-f-ne0 : goal.sequence-returns-then-f-ne0
-sequence-returns-then-f-ne0 t c =
-    let given = c.loop-from.invariant.0 c.args.t (sequences.sequence_starts c.args.s.now c.args.depth c.args.t c.factor-q.result c.factor-q.ensures) in
-    let on = factor_follows c.args.s.now c.loop-from.q given.within c.in-At.from (sym c.next_factor-onward.ensures ∙ c.in-At.is) in
-    sequences.factor_refused
-    c.args.s.now
-    c.args.depth
-    c.args.t
-    c.loop-from.q
-    given
-    c.loop-from.invariant.1
-    c.in-At.from
-    on _ c.table_of.ensures _
-    c.factor-f.ensures c.if-f-ne0.true
+pub sequence-returns-in_err-f : goal.sequence-returns-in_err-f
+sequence-returns-in_err-f t c =
+    let given = c.loop-from.invariant c.args.t (sequences.sequence_starts c.args.s.now c.args.depth c.args.t (read_so c.in_ok-q.q) c.in_ok-q.ensures) in
+    let on = factor_follows c.args.s.now (read_so c.loop-from.q) given.within c.in-Some.from (sym c.next_factor.ensures ∙ c.in-Some.is) in
+    let same : c.from_residual-in_err-f.result ≡ c.factor-in-Some.result = search rules in
+    rw same
+    (sequences.factor_refused c.args.s.now c.args.depth c.args.t (read_so c.loop-from.q) given refl c.in-Some.from on _ refl _
+    c.factor-in-Some.ensures (halted_some _ _ c.in_err-f.was))
 
 pub sequence-loop-from-preserved : goal.sequence-loop-from-preserved
 sequence-loop-from-preserved t c =
-    let given = c.loop-from.invariant.0 c.args.t (sequences.sequence_starts c.args.s.now c.args.depth c.args.t c.factor-q.result c.factor-q.ensures) in
-    let on = factor_follows c.args.s.now c.loop-from.q given.within c.in-At.from (sym c.next_factor-onward.ensures ∙ c.in-At.is) in (
-      λ t h. sequences.sequence_grows
-          c.args.s.now
-          c.args.depth
-          t c.loop-from.q
-          (c.loop-from.invariant.0 t h)
-          c.loop-from.invariant.1
-          c.in-At.from on _ c.table_of.ensures _
-          c.factor-f.ensures c.if-f-ne0.false _ c.then_read-q.ensures,
-      ap (λ (r : Reading).
-          r.number) c.then_read-q.ensures ∙ c.if-f-ne0.false,
-    )
+    let given = c.loop-from.invariant c.args.t (sequences.sequence_starts c.args.s.now c.args.depth c.args.t (read_so c.in_ok-q.q) c.in_ok-q.ensures) in
+    let on = factor_follows c.args.s.now (read_so c.loop-from.q) given.within c.in-Some.from (sym c.next_factor.ensures ∙ c.in-Some.is) in
+    λ t' h.
+    sequences.sequence_grows c.args.s.now c.args.depth t' (read_so c.loop-from.q) (c.loop-from.invariant t' h) refl c.in-Some.from on _ refl
+    (read_so c.in_ok-f.f) c.in_ok-f.ensures refl _ c.then_read-q.ensures
 
-pub sequence-returns-in-Ends : goal.sequence-returns-in-Ends
-sequence-returns-in-Ends t c =
-    let given = c.loop-from.invariant.0 c.args.t (sequences.sequence_starts c.args.s.now c.args.depth c.args.t c.factor-q.result c.factor-q.ensures) in
-    sequences.sequence_ends c.args.s.now
-    c.args.depth
-    c.args.t c.loop-from.q
-    given c.loop-from.invariant.1
-    (sym c.next_factor-onward.ensures ∙ c.in-Ends.is)
+pub sequence-returns : goal.sequence-returns
+sequence-returns t c =
+    let given = c.loop-from.invariant c.args.t (sequences.sequence_starts c.args.s.now c.args.depth c.args.t (read_so c.in_ok-q.q) c.in_ok-q.ensures) in
+    sequences.sequence_ends c.args.s.now c.args.depth c.args.t (read_so c.loop-from.q) given refl
+    (sym c.next_factor.ensures ∙ c.in_default.is)
 
-pub factor-overflow_add-end : goal.factor-overflow_add-end
-factor-overflow_add-end t c =
-    omega (
-      arith,
-      factors.name_fits c.args.s.now
-          c.next-r.result c.next-r.ensures _ c.in-Name.is,
-      c.well_formed,
-    )
+pub factor-overflow_add-start : goal.factor-overflow_add-start
+factor-overflow_add-start t c = omega (arith, factors.name_fits c.args.s.now c.next-r.result c.next-r.ensures _ c.in-Name.is, c.well_formed)
 
 pub factor-slice_bounds-place-end : goal.factor-slice_bounds-place-end
-factor-slice_bounds-place-end t c =
-    factors.name_fits c.args.s.now c.next-r.result
-    c.next-r.ensures _ c.in-Name.is
+factor-slice_bounds-place-end t c = factors.name_fits c.args.s.now c.next-r.result c.next-r.ensures _ c.in-Name.is
 
-pub factor-overflow_sub-n : goal.factor-overflow_sub-n
-factor-overflow_sub-n t c =
-    factors.start_fits c.args.s.now
-    c.next-r.result
-    c.next-r.ensures
+pub factor-overflow_sub-left : goal.factor-overflow_sub-left
+factor-overflow_sub-left t c = factors.used_fits c.args.s.now c.next-r.result c.next-r.ensures
 
-pub factor-returns-then-p-ne0 : goal.factor-returns-then-p-ne0
-factor-returns-then-p-ne0 t c =
-    factors.reads_limit _ _ c.next-r.ensures _ _ _ _
-    c.in-Name.is _ c.place-p.ensures
-    c.if-p-ne0.true c.halt.ensures
+pub factor-overflow_sub-result : goal.factor-overflow_sub-result
+factor-overflow_sub-result t c = factors.start_fits c.args.s.now c.next-r.result c.next-r.ensures
 
-pub factor-overflow_sub-n-in-Name : goal.factor-overflow_sub-n-in-Name
-factor-overflow_sub-n-in-Name t c =
-    factors.used_fits c.args.s.now
-    c.next-r.result
-    c.next-r.ensures
+pub factor-overflow_sub-result-then-depth-ge16 : goal.factor-overflow_sub-result-then-depth-ge16
+factor-overflow_sub-result-then-depth-ge16 t c = factors.start_fits c.args.s.now c.next-r.result c.next-r.ensures
 
-pub factor-overflow_sub-n-then-depth-ge16 : goal.factor-overflow_sub-n-then-depth-ge16
-factor-overflow_sub-n-then-depth-ge16 t c =
-    factors.start_fits c.args.s.now c.next-r.result
-    c.next-r.ensures
+pub factor-overflow_sub-result-in_default : goal.factor-overflow_sub-result-in_default
+factor-overflow_sub-result-in_default t c = factors.start_fits c.args.s.now c.next-r.result c.next-r.ensures
+
+pub factor-returns-in-Ok : goal.factor-returns-in-Ok
+factor-returns-in-Ok t c =
+    factors.reads_name _ _ c.next-r.ensures _ _ _ _ c.in-Name.is _ c.place.ensures _ c.in-Ok.is c.starry.ensures
+
+pub factor-returns-in-Err : goal.factor-returns-in-Err
+factor-returns-in-Err t c =
+    let number = ap refused_by c.in-Err.is in
+    factors.reads_limit _ _ c.next-r.ensures _ _ _ _ c.in-Name.is _ c.place.ensures (λ z. fault_some c.in-Err.fault (sym number ∙ z))
+    (ap (λ (n : ℕ). halted n (length c.args.s.now - c.next-r.result.start)) (sym number))
 
 pub factor-returns-then-depth-ge16 : goal.factor-returns-then-depth-ge16
 factor-returns-then-depth-ge16 t c =
-    factors.reads_deep _ _ c.next-r.ensures _ _ _ c.in-Open.is
-    c.if-depth-ge16.true c.halt-then-depth-ge16.ensures
+    factors.reads_deep _ _ c.next-r.ensures _ _ _ c.in-Open.is c.if-depth-ge16.true refl
 
 pub factor-slice_bounds-expression-count : goal.factor-slice_bounds-expression-count
-factor-slice_bounds-expression-count t c =
-    factors.used_fits c.args.s.now c.next-r.result
-    c.next-r.ensures
+factor-slice_bounds-expression-count t c = factors.used_fits c.args.s.now c.next-r.result c.next-r.ensures
 
 pub factor-slice_bounds-expression-start : goal.factor-slice_bounds-expression-start
-factor-slice_bounds-expression-start t c =
-    factors.used_fits c.args.s.now c.next-r.result
-    c.next-r.ensures
+factor-slice_bounds-expression-start t c = factors.used_fits c.args.s.now c.next-r.result c.next-r.ensures
 
-pub factor-expression-e-requires : goal.factor-expression-e-requires
-factor-expression-e-requires t c = (
+pub factor-expression-requires : goal.factor-expression-requires
+factor-expression-requires t c = (
   rw (part_to_end, length-drop) (omega (
     arith,
     c.decreases,
-    factors.used_fits
-        c.args.s.now c.next-r.result
-        c.next-r.ensures,
-    factors.open_used
-        c.args.s.now c.next-r.result
-        c.next-r.ensures c.in-Open.is,
+    factors.used_fits c.args.s.now c.next-r.result c.next-r.ensures,
+    factors.open_used c.args.s.now c.next-r.result c.next-r.ensures c.in-Open.is,
   )),
   tt,
 )
 
+pub factor-returns-in_err-e-in-Open : goal.factor-returns-in_err-e-in-Open
+factor-returns-in_err-e-in-Open t c =
+    let same : c.from_residual.result ≡ c.expression.result = search rules in
+    rw same
+    (factors.reads_inside _ _ c.next-r.ensures _ _ c.in-Open.is c.if-depth-ge16.false _ c.expression.ensures
+    (halted_some _ _ c.in_err-e-in-Open.was))
+
+pub factor-returns-in_err-closed-in-Open : goal.factor-returns-in_err-closed-in-Open
+factor-returns-in_err-closed-in-Open t c =
+    let same : c.from_residual-in_err-closed-in-Open.result ≡ c.close.result = search rules in
+    rw same
+    (factors.reads_open _ _ c.next-r.ensures _ _ _ c.in-Open.is c.if-depth-ge16.false (read_so c.in_ok-e-in-Open.e)
+    c.in_ok-e-in-Open.ensures _ c.close.ensures (starry_refused _ _ (halted_some _ _ c.in_err-closed-in-Open.was)))
+
 pub factor-starry-requires-in-Open : goal.factor-starry-requires-in-Open
 factor-starry-requires-in-Open t c =
-    factors.closed_fits c.args.s.now
-    c.next-r.result
-    c.next-r.ensures _ _ _ _ c.expression-e.ensures
-    c.close.ensures
+    factors.closed_fits c.args.s.now c.next-r.result c.next-r.ensures _ _ (read_so c.in_ok-e-in-Open.e) (read_so c.in_ok-closed-in-Open.closed)
+    c.in_ok-e-in-Open.ensures c.in_ok-closed-in-Open.ensures
 
-pub factor-overflow_sub-n-in_default : goal.factor-overflow_sub-n-in_default
-factor-overflow_sub-n-in_default t c =
-    factors.start_fits c.args.s.now c.next-r.result
-    c.next-r.ensures
-
-pub factor-returns-else-p-ne0 : goal.factor-returns-else-p-ne0
-factor-returns-else-p-ne0 t c =
-    factors.reads_name _ _ c.next-r.ensures _
-    _ _ _ c.in-Name.is _
-    c.place-p.ensures c.if-p-ne0.false c.starry.ensures
-
-pub factor-returns-else-depth-ge16 : goal.factor-returns-else-depth-ge16
-factor-returns-else-depth-ge16 t c =
-    factors.reads_open _ _ c.next-r.ensures _ _ _
-    c.in-Open.is c.if-depth-ge16.false _
-    c.expression-e.ensures _ c.close.ensures c.starry-in-Open.ensures
+pub factor-returns-in_ok-closed-in-Open : goal.factor-returns-in_ok-closed-in-Open
+factor-returns-in_ok-closed-in-Open t c =
+    factors.reads_open _ _ c.next-r.ensures _ _ _ c.in-Open.is c.if-depth-ge16.false (read_so c.in_ok-e-in-Open.e)
+    c.in_ok-e-in-Open.ensures (read_so c.in_ok-closed-in-Open.closed) c.in_ok-closed-in-Open.ensures c.starry-in-Open.ensures
 
 pub factor-returns-in_default : goal.factor-returns-in_default
 factor-returns-in_default t c =
     factors.reads_other _ _ c.next-r.ensures _ _ _
     (begins_no_factor c.next-r.result.token (but_factor _ c.in_default.not-Open c.in_default.not-Name))
-    (simp (c.halt-in_default.ensures, c.refusal_of.ensures))
+    (halts_by c.fault_of.result c.next-r.result.token _ c.fault_of.ensures)

@@ -5,15 +5,16 @@ use Rattle.text.specs.declared.tokens.Token.TheVariants.{TextEnd}
 use Rattle.compiler.proofs.Arms.{other_than}
 use Rattle.compiler.proofs.Concluding.{concluded_accepts, concluded_refuses}
 use Rattle.compiler.proofs.FactorPaths.{start_fits}
+use Rattle.compiler.proofs.Refusing.{refuses_by}
 use Rattle.compiler.proofs.readers.conclude.Goals as goal
 
-pub overflow_add-at : goal.overflow_add-at
-overflow_add-at c = omega (arith, c.requires, start_fits _ _ c.next-r.ensures)
+pub overflow_add-result : goal.overflow_add-result
+overflow_add-result c = omega (arith, c.requires, start_fits _ _ c.next-r.ensures)
 
 pub returns-in-TextEnd : goal.returns-in-TextEnd
-returns-in-TextEnd c = concluded_accepts _ _ _ _ c.next-r.ensures c.in-TextEnd.is _ c.complete-table.ensures
+returns-in-TextEnd c = concluded_accepts _ _ _ _ c.next-r.ensures c.in-TextEnd.is _ c.complete.ensures
 
 pub returns-in_default : goal.returns-in_default
 returns-in_default c =
     concluded_refuses _ _ _ _ c.next-r.ensures (other_than TextEnd refl c.next-r.result.token c.in_default.not-TextEnd) _
-    (simp (c.refuse.ensures, c.refusal_of.ensures))
+    (refuses_by c.fault_of.result c.next-r.result.token _ c.fault_of.ensures)

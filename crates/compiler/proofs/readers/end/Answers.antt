@@ -2,64 +2,32 @@
 use mathlib.Core.Path.{refl}
 use native.Mathlib.Omega.{arith}
 use Rattle.text.specs.declared.tokens.Token.TheVariants.{End}
+use Rattle.compiler.specs.Reading.{read_so}
 use Rattle.compiler.proofs.Arms.{other_than}
-use Rattle.compiler.proofs.Concluding.{ended_inside, ended_ends, ended_refuses, end_fits, end_starts, rest_fits}
+use Rattle.compiler.proofs.Concluding.{ended_ends, ended_refuses, end_fits, end_starts, rest_fits}
+use Rattle.compiler.proofs.Refusing.{refuses_by}
 use Rattle.compiler.proofs.readers.end.Goals as goal
 
-pub returns-then-e-ne0 : goal.returns-then-e-ne0
-returns-then-e-ne0 c = ended_inside _ _ c.if-e-ne0.true _ c.refuse.ensures
-
 pub overflow_add-from : goal.overflow_add-from
-overflow_add-from c = omega (
-  arith,
-  end_fits c.args.text.now
-      c.args.e
-      c.if-e-ne0.false _ c.next-r.ensures
-      c.requires.0,
-  c.requires.1,
-)
+overflow_add-from c = omega (arith, end_fits c.args.text.now (read_so c.args.e) refl _ c.next-r.ensures c.requires.0, c.requires.1)
 
 pub slice_bounds-conclude-count : goal.slice_bounds-conclude-count
-slice_bounds-conclude-count c = end_fits c.args.text.now
-    c.args.e
-    c.if-e-ne0.false _ c.next-r.ensures
-    c.requires.0
+slice_bounds-conclude-count c = end_fits c.args.text.now (read_so c.args.e) refl _ c.next-r.ensures c.requires.0
 
 pub slice_bounds-conclude-start : goal.slice_bounds-conclude-start
-slice_bounds-conclude-start c = end_fits c.args.text.now
-    c.args.e
-    c.if-e-ne0.false _ c.next-r.ensures
-    c.requires.0
+slice_bounds-conclude-start c = end_fits c.args.text.now (read_so c.args.e) refl _ c.next-r.ensures c.requires.0
 
 pub conclude-requires : goal.conclude-requires
-conclude-requires c = omega (
-  arith,
-  rest_fits
-      c.args.text.now
-      c.args.e
-      c.if-e-ne0.false _ c.next-r.ensures
-      c.requires.0,
-  c.requires.1,
-)
+conclude-requires c = omega (arith, rest_fits c.args.text.now (read_so c.args.e) refl _ c.next-r.ensures c.requires.0, c.requires.1)
 
-pub overflow_add-k : goal.overflow_add-k
-overflow_add-k c = omega (
-  arith,
-  end_starts
-      c.args.text.now
-      c.args.e
-      c.if-e-ne0.false _ c.next-r.ensures
-      c.requires.0,
-  c.requires.1,
-)
+pub overflow_add-result : goal.overflow_add-result
+overflow_add-result c = omega (arith, end_starts c.args.text.now (read_so c.args.e) refl _ c.next-r.ensures c.requires.0, c.requires.1)
 
 pub returns-in-End : goal.returns-in-End
-returns-in-End c = ended_ends _ _ c.if-e-ne0.false _
-    c.next-r.ensures c.in-End.is _
-    c.conclude.ensures
+returns-in-End c = ended_ends c.args.text.now (read_so c.args.e) refl _ c.next-r.ensures c.in-End.is _ c.conclude.ensures
 
 pub returns-in_default : goal.returns-in_default
 returns-in_default c =
-    ended_refuses _ _ c.if-e-ne0.false _
-    c.next-r.ensures (other_than End refl c.next-r.result.token c.in_default.not-End) _
-    (simp (c.refuse-in_default.ensures, c.refusal_of.ensures))
+    ended_refuses c.args.text.now (read_so c.args.e) refl _ c.next-r.ensures
+    (other_than End refl c.next-r.result.token c.in_default.not-End) _
+    (refuses_by c.fault_of.result c.next-r.result.token _ c.fault_of.ensures)

@@ -4,8 +4,8 @@ use lib.ListN.{length}
 use Rattle.compiler.proofs.Stars.{StarsSoFar}
 use Rattle.compiler.proofs.readers.stars.Given as goal
 
-abbrev pub invariant-loop-any : goal.invariant-loop-any
-invariant-loop-any l = StarsSoFar l.s l.any l.used
+abbrev pub invariant-loop-used : goal.invariant-loop-used
+invariant-loop-used l = StarsSoFar l.s l.used
 
-abbrev pub decreases-loop-any : goal.decreases-loop-any
-decreases-loop-any l = length l.s - l.used
+abbrev pub decreases-loop-used : goal.decreases-loop-used
+decreases-loop-used l = length l.s - l.used
