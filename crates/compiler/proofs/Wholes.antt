@@ -30,12 +30,10 @@ use Rattle.parts.specs.Progress.{noted, Fine, part_of}
 use Rattle.parts.proofs.NameParts.{nothing_fine}
 use Rattle.parts.proofs.Completed.{completed_part}
 use Rattle.compiler.specs.Reading.{Sum, Tail, Goes, ExpressionRead, PartRead, EitherWay, Stops, verdict, behind, made, ends_expression, is_path, is_end, is_text_end, refused_at, concluded, end_by, ended, unfit}
-use Rattle.compiler.specs.Compiling.{Compiles}
 use Rattle.compiler.specs.Computed.{answered, compiled}
 use Rattle.compiler.specs.Reading.{Seen}
 use Rattle.compiler.specs.declared.replies.Compiled.{Compiled}
 use Rattle.std.specs.Prelude.{Ok}
-use Rattle.compiler.proofs.CompiledTexts.{compiles}
 use Rattle.compiler.proofs.Tails.{slice, tail_whole, tail_drop}
 use Rattle.compiler.proofs.Insides.{inside, size_inside, tail_inside, inner, within_all, behind_inside}
 use Rattle.compiler.proofs.Endings.{behind_fits, behind_starts, behind_symbol, behind_stuck}
@@ -121,10 +119,6 @@ nothing_noted = refl
 pub compile_long : (text : List ℕ) → 4096 < length text → refused_at 1 4096 ≡ compiled text
 unfolding compiled judge
 compile_long text h = rw (lt-ltb 4096 (length text) h) refl
-
--- so such a refusal of a text that is too long fulfils the contract
-pub long_compiles : (text : List ℕ) (r : Compiled) → 4096 < length text → r ≡ refused_at 1 4096 → Compiles text r
-long_compiles text r h is = compiles text r (is ∙ compile_long text h)
 
 module _ (text : List ℕ) (short : length text ≤ 4096) where
   -- the machine starts outside, with the whole text left

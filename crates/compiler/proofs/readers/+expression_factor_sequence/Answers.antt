@@ -8,7 +8,7 @@ use Rattle.compiler.specs.Reading.{read_so, halted}
 use Rattle.compiler.proofs.Onwards.{sequence_follows, factor_follows}
 use Rattle.compiler.proofs.Expressions as expressions
 use Rattle.compiler.proofs.Sequences as sequences
-use Rattle.compiler.proofs.Arms.{but_factor, begins_no_factor}
+use Rattle.compiler.proofs.Arms.{begins_none}
 use Rattle.compiler.proofs.FactorPaths as factors
 use Rattle.compiler.proofs.Refusing.{halts_by, halted_some}
 use Rattle.compiler.proofs.Starry.{starry_refused}
@@ -170,5 +170,5 @@ factor-returns-in_ok-closed-in-Open t c =
 pub factor-returns-in_default : goal.factor-returns-in_default
 factor-returns-in_default t c =
     factors.reads_other _ _ c.next-r.ensures _ _ _
-    (begins_no_factor c.next-r.result.token (but_factor _ c.in_default.not-Open c.in_default.not-Name))
+    (begins_none c.next-r.result.token c.in_default.not-Open c.in_default.not-Name)
     (halts_by c.fault_of.result c.next-r.result.token _ c.fault_of.ensures)
