@@ -1,5 +1,5 @@
 -- Reading a number digit by digit: what is left of it, and how large it can have become.
-use mathlib.Core.Path.{◌≡◌, refl, sym}
+use mathlib.Core.Path.{◌≡◌, refl}
 use mathlib.Core.Bool.{Bool, true, false, ◌&&◌, false≢true}
 use mathlib.Core.Logic.{◌⊎◌, inl, inr}
 use mathlib.Core.List.{List, []}
@@ -12,7 +12,7 @@ use lib.ListN.{length, drop, get_or}
 use lib.Seq.{drop-cons}
 use Rattle.text.specs.Classes.{is_digit}
 use Rattle.wording.specs.Orders.{all_digits, is_number, value_from, value_of, number_in}
-use Rattle.std.specs.Prelude.{Option as Maybe, Some, None}
+use Rattle.std.specs.Prelude.{Some, None}
 
 pub digit_range : (b : ℕ) → is_digit b ≡ true → (48 ≤ b) × (b ≤ 57)
 digit_range b e = go (leb 48 b) (leb b 57) refl refl e
