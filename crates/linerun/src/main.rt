@@ -3,30 +3,12 @@
 #![tactic(auto)]
 
 ghost use Rattle.std.specs.Prelude.{◌≡◌, length, OnOk, IfSome};
-ghost use Rattle.std.specs.Io.KnownBytes.{Appends};
 ghost use Rattle.linerun.specs.Running.{WritesTranscript};
 
 use inputs::read_full;
-use standing::numbers::least;
 use std::io;
 use std::io::{Read, Write};
 use transcripts::transcript::transcript;
-
-// One write takes at most so much.
-const PIECE: usize = 65536;
-
-// Writes all of the bytes, piece by piece; what is left when a write fails is not tried again.
-fn write_pieces<W: Write>(out: &mut W, bytes: &[u8]) -> io::Result<()>
-    ensures { OnOk result (Appends (W.contents out.old) (W.contents out.new) bytes.now) }
-{
-    let mut done: usize = 0;
-    while done < bytes.len() {
-        let end = done + least(PIECE, bytes.len() - done);
-        out.write_all(&bytes[done..end])?;
-        done = end;
-    }
-    Ok(())
-}
 
 // One byte more than an input may have.
 fn input_buffer() -> [u8; 65537]
@@ -50,7 +32,7 @@ fn run<R: Read, W: Write>(from: &mut R, out: &mut W) -> io::Result<()>
     let n = read_full(from, &mut input)?;
     let mut output = output_buffer();
     let said = transcript(&input[..n], &mut output);
-    write_pieces(out, &output[..said])
+    out.write_all(&output[..said])
 }
 
 fn main(rt: HostRuntime) -> io::Result<()> {

@@ -1,13 +1,12 @@
 // The reply lines.
-ghost use Rattle.std.specs.Prelude.{◌++◌, ◌∷◌, [], ◌≡◌, ◌<◌, take, get_or};
-ghost use Rattle.table.specs.Cells.{spellings};
+ghost use Rattle.std.specs.Prelude.{◌++◌, ◌∷◌, [], get_or};
+ghost use Rattle.table.specs.Cells.{names_of};
 ghost use Rattle.wording.specs.Lines.{lf, space};
 ghost use Rattle.wording.specs.Writing.{Puts, decimal};
 ghost use Rattle.transcripts.specs.Replies.{line_of, refused_line, refused_path_line, path_line, ask_line, grant_fields, finished_line};
 ghost use Rattle.transcripts.specs.Replies.{finish_line, withdraw_line};
 
 use compiler::replies::Refusal;
-use standing::numbers::least;
 use steps::replies::{AskReply, FinishReply, Finished, Grant, Next, WithdrawReply};
 use table::cells::Table;
 use table::numbers::Operation;
@@ -59,33 +58,17 @@ pub(crate) fn put_ask(out: &mut [u8], at: usize, reply: AskReply) -> usize
     }
 }
 
-fn wide(n: u8) -> usize
-    ensures { (result ≡ n) × (result < 256) }
-{
-    n as usize
-}
-
-// The name of an operation, among the first `names` there are.
-fn put_name(
-    out: &mut [u8],
-    at: usize,
-    names: usize,
-    lengths: [u8; 32],
-    bytes: [u8; 512],
-    operation: Operation,
-) -> usize
-    ensures { Puts out.old at (get_or (take names (spellings lengths bytes)) operation.0 []) result out.new }
+// The name of an operation of the table; nothing, if the table does not have it.
+fn put_name(out: &mut [u8], at: usize, table: &Table, operation: Operation) -> usize
+    ensures { Puts out.old at (get_or (names_of table.now) operation.0 []) result out.new }
 {
     let o = operation.0 as usize;
-    if names <= o {
-        return least(at, out.len());
-    }
-    if 32 <= o {
-        return least(at, out.len());
+    if table.names.min(32) <= o {
+        return at.min(out.len());
     }
     let from = 16 * o;
-    let to = least(from + wide(lengths[o]), 512);
-    put_bytes(out, at, &bytes[from..to])
+    let to = (from + table.lengths[o] as usize).min(512);
+    put_bytes(out, at, &table.bytes[from..to])
 }
 
 // Whom a finish hands the line to, and for what.
@@ -95,10 +78,7 @@ fn put_grant(out: &mut [u8], at: usize, table: Table, grant: Grant) -> usize
     let k = put_bytes(out, at, b" granted ");
     let k = put_number(out, k, grant.terminal.0 as u64);
     let k = put(out, k, SPACE);
-    let lengths = table.lengths;
-    let bytes = table.bytes;
-    let operation = grant.operation;
-    let k = put_name(out, k, table.names, lengths, bytes, operation);
+    let k = put_name(out, k, &table, grant.operation);
     put(out, k, LF)
 }
 

@@ -7,7 +7,7 @@ ghost use Rattle.transcripts.specs.Talking.{Replied, Turned, Talked};
 
 use crate::replies::{put_ask, put_finish, put_refused, put_withdraw};
 use lines::held::{Line, ask_line, finish_line, withdraw_line};
-use standing::numbers::{Terminal, least};
+use standing::numbers::Terminal;
 use wording::orders::{LF, Order, bytes_before, read_line};
 
 // The line after a turn, and where the output goes on.
@@ -52,18 +52,13 @@ fn withdraw_turn(line: Line, terminal: Terminal, out: &mut [u8], at: usize) -> T
 fn take_turn(line: Line, text: &[u8], out: &mut [u8], at: usize) -> Turn
     ensures { Turned line.session line.list text.now out.old at result out.new }
 {
-    let order = read_line(text);
-    match order {
-        Order::Ask(asking) => {
-            let from = asking.from;
-            let terminal = asking.terminal;
-            ask_turn(line, terminal, &text[from..], out, at)
-        }
+    match read_line(text) {
+        Order::Ask(asking) => ask_turn(line, asking.terminal, &text[asking.from..], out, at),
         Order::Finish(terminal) => finish_turn(line, terminal, out, at),
         Order::Withdraw(terminal) => withdraw_turn(line, terminal, out, at),
         Order::Unreadable => {
             let at = put_refused(out, at, 16);
-            Turn { line: line, at: at }
+            Turn { line, at }
         }
     }
 }
@@ -83,7 +78,7 @@ pub(crate) fn talk(line: Line, input: &[u8], from: usize, out: &mut [u8], at: us
     ensures { Talked line.session line.list (lines_of (drop from input.now)) out.old at result out.new }
 {
     let mut line = line;
-    let mut k = least(at, out.len());
+    let mut k = at.min(out.len());
     let mut i = from;
     while i < input.len() {
         let end = i + bytes_before(&input[i..], LF);

@@ -21,17 +21,15 @@ use wording::orders::{LF, bytes_before};
 fn nothing() -> Line
     ensures { result.list ≡ replicate 64 blank_entry }
 {
-    let table = table_of_zeros();
     let session = Session {
-        table: table,
+        table: table_of_zeros(),
         set: 0,
         state: State::Free,
         waiting: 0,
     };
-    let list = [blank_entry(); 64];
     Line {
-        session: session,
-        list: list,
+        session,
+        list: [blank_entry(); 64],
     }
 }
 

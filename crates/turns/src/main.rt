@@ -3,8 +3,6 @@
 // line has the script run N times, from nothing each time, of which the last shows.
 #![tactic(auto)]
 
-ghost use Rattle.std.specs.Prelude.{◌≤◌, length};
-
 use compiler::readers::compile;
 use compiler::replies::Reply;
 use inputs::read_full;
@@ -18,86 +16,29 @@ use steps::replies::{AskReply, FinishReply, Finished, Next, OpenReply, WithdrawR
 use table::cells::{Table, table_of_zeros};
 use table::numbers::Operation;
 
-const NEWLINE: u8 = 10;
+// What ends a line of a script.
+const NEWLINE: u8 = b'\n';
 
 // No more of a script is read.
 const LIMIT: usize = 65536;
 
-// A number of a script's line, and where it ends.
-#[derive(Clone, Copy)]
-struct Field {
-    value: u64,
-    end: usize,
+// What stands behind the first byte, the space between two fields.
+fn behind(text: &[u8]) -> &[u8] {
+    text.get(1..).unwrap_or(&[])
 }
 
-fn print<W: Write>(out: &mut W, s: &[u8]) -> io::Result<()> {
-    out.write_all(s)
-}
-
-fn print_number<W: Write>(out: &mut W, n: u64) -> io::Result<()> {
-    write!(out, "{n}")
-}
-
-fn print_with<W: Write>(out: &mut W, s: &[u8], n: u64) -> io::Result<()> {
-    print(out, s)?;
-    print_number(out, n)
-}
-
-fn is_digit(b: u8) -> bool {
-    48 <= b && b <= 57
-}
-
-// The value with one more digit, if it is not too large for that.
-fn with_digit(value: u64, b: u8) -> u64 {
-    if value < 1844674407370955161 {
-        if 48 <= b {
-            if b <= 57 {
-                return value * 10 + (b - 48) as u64;
-            }
+// The number that a text starts with, and what stands behind it. A digit that makes it too large is passed over.
+fn number(text: &[u8]) -> (u64, &[u8]) {
+    let mut value = 0u64;
+    for (i, b) in text.iter().enumerate() {
+        if !b.is_ascii_digit() {
+            return (value, &text[i..]);
+        }
+        if value < u64::MAX / 10 {
+            value = value * 10 + u64::from(*b - b'0');
         }
     }
-    value
-}
-
-// The number that starts at `from`.
-fn number(text: &[u8], from: usize) -> Field {
-    let mut value: u64 = 0;
-    let mut k = from;
-    while k < text.len() {
-        let b = text[k];
-        if !is_digit(b) {
-            return Field {
-                value: value,
-                end: k,
-            };
-        }
-        value = with_digit(value, b);
-        k += 1;
-    }
-    Field {
-        value: value,
-        end: k,
-    }
-}
-
-// A place of the text, or its end.
-fn within(text: &[u8], at: usize) -> usize
-    ensures { result ≤ length text.now }
-{
-    if at < text.len() {
-        return at;
-    }
-    text.len()
-}
-
-// The place behind one, or the text's end.
-fn behind(text: &[u8], at: usize) -> usize
-    ensures { result ≤ length text.now }
-{
-    if at < text.len() {
-        return at + 1;
-    }
-    text.len()
+    (value, &[])
 }
 
 fn show_open<W: Write>(out: &mut W, reply: OpenReply, shows: bool) -> io::Result<()> {
@@ -105,14 +46,13 @@ fn show_open<W: Write>(out: &mut W, reply: OpenReply, shows: bool) -> io::Result
         return Ok(());
     }
     match reply {
-        OpenReply::Opened => print(out, b"opened\n"),
+        OpenReply::Opened => writeln!(out, "opened"),
         OpenReply::Refused(n) => show_refused(out, n),
     }
 }
 
 fn show_refused<W: Write>(out: &mut W, n: u8) -> io::Result<()> {
-    print_with(out, b"refused ", n as u64)?;
-    print(out, b"\n")
+    writeln!(out, "refused {n}")
 }
 
 fn show_ask<W: Write>(out: &mut W, reply: AskReply, shows: bool) -> io::Result<()> {
@@ -120,26 +60,20 @@ fn show_ask<W: Write>(out: &mut W, reply: AskReply, shows: bool) -> io::Result<(
         return Ok(());
     }
     match reply {
-        AskReply::Granted => print(out, b"granted\n"),
-        AskReply::Delayed(n) => {
-            print_with(out, b"delayed ", n as u64)?;
-            print(out, b"\n")
-        }
+        AskReply::Granted => writeln!(out, "granted"),
+        AskReply::Delayed(n) => writeln!(out, "delayed {n}"),
         AskReply::Refused(n) => show_refused(out, n),
     }
 }
 
 fn show_finished<W: Write>(out: &mut W, f: Finished) -> io::Result<()> {
-    print_with(out, b"finished ", f.examined as u64)?;
+    write!(out, "finished {}", f.examined)?;
     let next = f.next;
     match next {
-        Next::Granted(g) => {
-            print_with(out, b" granted ", g.terminal.0 as u64)?;
-            print_with(out, b" ", g.operation.0 as u64)?;
-        }
+        Next::Granted(g) => write!(out, " granted {} {}", g.terminal.0, g.operation.0)?,
         Next::Nobody => {}
     }
-    print(out, b"\n")
+    writeln!(out)
 }
 
 fn show_finish<W: Write>(out: &mut W, reply: FinishReply, shows: bool) -> io::Result<()> {
@@ -157,10 +91,7 @@ fn show_withdraw<W: Write>(out: &mut W, reply: WithdrawReply, shows: bool) -> io
         return Ok(());
     }
     match reply {
-        WithdrawReply::Withdrawn(p) => {
-            print_with(out, b"withdrawn ", p as u64)?;
-            print(out, b"\n")
-        }
+        WithdrawReply::Withdrawn(p) => writeln!(out, "withdrawn {p}"),
         WithdrawReply::Refused(n) => show_refused(out, n),
     }
 }
@@ -169,52 +100,33 @@ fn is_blank(e: Entry) -> bool {
     e.terminal.0 == 0 && e.operation.0 == 0
 }
 
-// How many entries there are up to the last that is not blank.
-fn shown(list: [Entry; 64]) -> usize {
-    let mut n: usize = 64;
-    while 0 < n {
-        if !is_blank(list[n - 1]) {
-            return n;
-        }
-        n -= 1;
-    }
-    0
-}
-
-fn show_entry<W: Write>(out: &mut W, e: Entry) -> io::Result<()> {
-    print_with(out, b" ", e.terminal.0 as u64)?;
-    print_with(out, b".", e.operation.0 as u64)
-}
-
-fn show_list<W: Write>(out: &mut W, list: [Entry; 64]) -> io::Result<()> {
-    let n = shown(list);
-    for i in 0..64usize {
-        if i < n {
-            show_entry(out, list[i])?;
-        }
+// The entries up to the last that is not blank.
+fn show_list<W: Write>(out: &mut W, list: &[Entry]) -> io::Result<()> {
+    let Some(last) = list.iter().rposition(|e| !is_blank(*e)) else {
+        return Ok(());
+    };
+    for e in &list[..=last] {
+        write!(out, " {}.{}", e.terminal.0, e.operation.0)?;
     }
     Ok(())
 }
 
 fn show_state<W: Write>(out: &mut W, state: State) -> io::Result<()> {
     match state {
-        State::Free => print(out, b" free"),
-        State::Running(t) => print_with(out, b" ", t.0 as u64),
+        State::Free => write!(out, " free"),
+        State::Running(t) => write!(out, " {}", t.0),
     }
 }
 
-fn show_line<W: Write>(out: &mut W, line: Line, shows: bool) -> io::Result<()> {
+fn show_line<W: Write>(out: &mut W, line: &Line, shows: bool) -> io::Result<()> {
     if !shows {
         return Ok(());
     }
-    let session = line.session;
-    print_number(out, session.set)?;
-    let state = session.state;
-    show_state(out, state)?;
-    print_with(out, b" ", session.waiting as u64)?;
-    let list = line.list;
-    show_list(out, list)?;
-    print(out, b"\n")
+    write!(out, "{}", line.session.set)?;
+    show_state(out, line.session.state)?;
+    write!(out, " {}", line.session.waiting)?;
+    show_list(out, &line.list)?;
+    writeln!(out)
 }
 
 fn opened<W: Write>(out: &mut W, line: Line, table: Table, shows: bool) -> io::Result<Line> {
@@ -234,9 +146,7 @@ fn compiled<W: Write>(out: &mut W, line: Line, text: &[u8], shows: bool) -> io::
         }
         Reply::Refused(why) => {
             if shows {
-                print_with(out, b"refused ", why.number as u64)?;
-                print_with(out, b" at ", why.place as u64)?;
-                print(out, b"\n")?;
+                writeln!(out, "refused {} at {}", why.number, why.place)?;
             }
             Ok(line)
         }
@@ -289,185 +199,92 @@ fn byte_of(n: u64) -> u8 {
     (n % 256) as u8
 }
 
-// One cell of the table gets a value.
-fn table_damaged(table: Table, kind: u64, at: usize, value: u64) -> Table {
-    let mut t = table;
-    match kind {
-        6 => t.start = value,
-        11 => t.mark = byte_of(value),
-        12 => t.positions = value as usize,
-        13 => t.names = value as usize,
+// One cell gets a value, which need not be one that it may have. The cells are numbered as here; of a row of cells it is the one at a place.
+fn damaged(line: Line, cell: u64, at: usize, value: u64) -> Line {
+    let mut line = line;
+    match cell {
+        0 => line.session.set = value,
+        1 => line.session.state = State::Free,
+        2 => line.session.state = State::Running(terminal_of(value)),
+        3 => line.session.waiting = value as usize,
+        4 if at < 64 => line.list[at].terminal = terminal_of(value),
+        5 if at < 64 => line.list[at].operation = Operation(byte_of(value)),
+        6 => line.session.table.start = value,
+        7 if at < 64 => line.session.table.rows[at] = value,
+        8 if at < 64 => line.session.table.operations[at] = Operation(byte_of(value)),
+        9 if at < 32 => line.session.table.lengths[at] = byte_of(value),
+        10 if at < 512 => line.session.table.bytes[at] = byte_of(value),
+        11 => line.session.table.mark = byte_of(value),
+        12 => line.session.table.positions = value as usize,
+        13 => line.session.table.names = value as usize,
         _ => {}
     }
-    if at < 64 {
-        match kind {
-            7 => t.rows[at] = value,
-            8 => t.operations[at] = Operation(byte_of(value)),
-            _ => {}
-        }
-    }
-    if kind == 9 && at < 32 {
-        t.lengths[at] = byte_of(value);
-    }
-    if kind == 10 && at < 512 {
-        t.bytes[at] = byte_of(value);
-    }
-    t
-}
-
-fn list_damaged(list: [Entry; 64], kind: u64, at: usize, value: u64) -> [Entry; 64] {
-    let mut l = list;
-    if at < 64 {
-        let e = l[at];
-        if kind == 4 {
-            let operation = e.operation;
-            l[at] = Entry {
-                terminal: terminal_of(value),
-                operation: operation,
-            };
-        }
-        if kind == 5 {
-            let terminal = e.terminal;
-            l[at] = Entry {
-                terminal: terminal,
-                operation: Operation(byte_of(value)),
-            };
-        }
-    }
-    l
-}
-
-fn state_damaged(state: State, kind: u64, value: u64) -> State {
-    if kind == 1 {
-        return State::Free;
-    }
-    if kind == 2 {
-        return State::Running(terminal_of(value));
-    }
-    state
-}
-
-// One cell gets a value, which need not be one that it may have.
-fn damaged(line: Line, kind: u64, at: usize, value: u64) -> Line {
-    let before = line.session;
-    let table = before.table;
-    let table = table_damaged(table, kind, at, value);
-    let state = before.state;
-    let state = state_damaged(state, kind, value);
-    let mut set = before.set;
-    if kind == 0 {
-        set = value;
-    }
-    let mut waiting = before.waiting;
-    if kind == 3 {
-        waiting = value as usize;
-    }
-    let session = Session {
-        table: table,
-        set: set,
-        state: state,
-        waiting: waiting,
-    };
-    let list = line.list;
-    let list = list_damaged(list, kind, at, value);
-    Line {
-        session: session,
-        list: list,
-    }
-}
-
-fn place_of(n: u64) -> usize {
-    if n < 1000 {
-        return n as usize;
-    }
-    1000
-}
-
-fn damage_line(line: Line, s: &[u8], kind: Field) -> Line {
-    let at = number(s, behind(s, kind.end));
-    let value = number(s, behind(s, at.end));
-    damaged(line, kind.value, place_of(at.value), value.value)
+    line
 }
 
 // One line of the script.
 fn turn<W: Write>(out: &mut W, line: Line, s: &[u8], shows: bool) -> io::Result<Line> {
-    if s.len() == 0 {
+    let [letter, rest @ ..] = s else {
         return Ok(line);
-    }
-    let letter = s[0];
-    let a = number(s, 2);
-    let terminal = terminal_of(a.value);
+    };
+    let fields = behind(rest);
+    let (first, rest) = number(fields);
+    let terminal = terminal_of(first);
     match letter {
-        b'p' => {
-            let from = within(s, 2);
-            compiled(out, line, &s[from..], shows)
-        }
-        b'o' => {
-            let table = line.session.table;
-            opened(out, line, table, shows)
-        }
-        b'a' => {
-            let from = behind(s, a.end);
-            asked(out, line, terminal, &s[from..], shows)
-        }
+        b'p' => compiled(out, line, fields, shows),
+        b'o' => opened(out, line, line.session.table, shows),
+        b'a' => asked(out, line, terminal, behind(rest), shows),
         b'f' => finished(out, line, terminal, shows),
         b'w' => withdrawn(out, line, terminal, shows),
         b's' => {
-            show_line(out, line, shows)?;
+            show_line(out, &line, shows)?;
             Ok(line)
         }
-        b'd' => Ok(damage_line(line, s, a)),
+        b'd' => {
+            let (at, rest) = number(behind(rest));
+            let (value, _) = number(behind(rest));
+            Ok(damaged(line, first, at as usize, value))
+        }
         _ => Ok(line),
     }
 }
 
 // Nothing opened, nobody waiting.
 fn nothing() -> Line {
-    let table = table_of_zeros();
     let session = Session {
-        table: table,
+        table: table_of_zeros(),
         set: 0,
         state: State::Free,
         waiting: 0,
     };
-    let list = [blank_entry(); 64];
     Line {
-        session: session,
-        list: list,
+        session,
+        list: [blank_entry(); 64],
     }
 }
 
-// The script, from nothing.
+// The script, from nothing; what stands behind its last line is none.
 fn run<W: Write>(out: &mut W, script: &[u8], shows: bool) -> io::Result<()> {
+    let Some(end) = script.iter().rposition(|b| *b == NEWLINE) else {
+        return Ok(());
+    };
     let mut line = nothing();
-    let mut from: usize = 0;
-    let mut i: usize = 0;
-    while i < script.len() {
-        if script[i] == NEWLINE {
-            if from <= i {
-                line = turn(out, line, &script[from..i], shows)?;
-            }
-            from = i + 1;
-        }
-        i += 1;
+    for text in script[..end].split(|b| *b == NEWLINE) {
+        line = turn(out, line, text, shows)?;
     }
     Ok(())
 }
 
 fn times_of(script: &[u8]) -> u64 {
-    if 0 < script.len() {
-        if script[0] == b't' {
-            return number(script, 2).value;
-        }
+    match script {
+        [b't', rest @ ..] => number(behind(rest)).0,
+        _ => 1,
     }
-    1
 }
 
 fn run_all<W: Write>(out: &mut W, script: &[u8]) -> io::Result<()> {
-    let mut left = times_of(script);
-    while 0 < left {
+    for left in (1..=times_of(script)).rev() {
         run(out, script, left == 1)?;
-        left -= 1;
     }
     Ok(())
 }

@@ -16,8 +16,8 @@ use Rattle.text.specs.Tokens.{span}
 use Rattle.wording.specs.Lines.{space, before, fields_of}
 use Rattle.wording.specs.Orders.{ask_word, finish_word, withdraw_word, all_digits, is_number, value_of, is_not_empty, call_in}
 use Rattle.wording.specs.Orders.{two_fields, three_fields, number_in, two_read, three_read, call_read, name_start, ReadsAs}
-use Rattle.wording.specs.declared.orders.Number.{Number}
-use Rattle.wording.specs.declared.orders.Number.TheVariants.{Of, None}
+use Rattle.std.specs.Prelude.{Option as Maybe, Some, None}
+use Rattle.standing.specs.declared.numbers.Terminal.{Terminal}
 use Rattle.wording.specs.declared.orders.Order.TheVariants.{Unreadable}
 use Rattle.wording.proofs.Numbers.{digit_range}
 
@@ -93,7 +93,7 @@ number_none : (s : List ℕ) → is_number s ≡ false → number_in s ≡ None
 unfolding number_in
 number_none s e = rw e refl
 
-number_of : (s : List ℕ) → is_number s ≡ true → number_in s ≡ Of (record { 0 = value_of s })
+number_of : (s : List ℕ) → is_number s ≡ true → number_in s ≡ Some (record { 0 = value_of s })
 unfolding number_in
 number_of s e = rw e refl
 
@@ -111,11 +111,11 @@ module _ (line word : List ℕ) where
       go true false false e f w = rw (number_of s e, e, f, w) refl
       go false u v e f w = rw (number_none s e, e) refl
 
-  two_start : (n : Number) → name_start (two_read word n) ≡ 0
+  two_start : (n : Maybe Terminal) → name_start (two_read word n) ≡ 0
   two_start None = refl
-  two_start (Of t) = go (same word finish_word) (same word withdraw_word) refl refl
+  two_start (Some t) = go (same word finish_word) (same word withdraw_word) refl refl
     where
-      go : (u v : Bool) → same word finish_word ≡ u → same word withdraw_word ≡ v → name_start (two_read word (Of t)) ≡ 0
+      go : (u v : Bool) → same word finish_word ≡ u → same word withdraw_word ≡ v → name_start (two_read word (Some t)) ≡ 0
       go true v f w = rw f refl
       go false true f w = rw (f, w) refl
       go false false f w = rw (f, w) refl

@@ -2,6 +2,7 @@ pub mod AskWays
 pub mod Determined
 pub mod Digits
 pub mod Fields
+pub mod Firsts
 pub mod LineWays
 pub mod Numbers
 pub mod Pieces

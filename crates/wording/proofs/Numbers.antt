@@ -1,5 +1,5 @@
 -- Reading a number digit by digit: what is left of it, and how large it can have become.
-use mathlib.Core.Path.{◌≡◌, refl, sym}
+use mathlib.Core.Path.{◌≡◌, refl}
 use mathlib.Core.Bool.{Bool, true, false, ◌&&◌, false≢true}
 use mathlib.Core.Logic.{◌⊎◌, inl, inr}
 use mathlib.Core.List.{List, []}
@@ -12,7 +12,7 @@ use lib.ListN.{length, drop, get_or}
 use lib.Seq.{drop-cons}
 use Rattle.text.specs.Classes.{is_digit}
 use Rattle.wording.specs.Orders.{all_digits, is_number, value_from, value_of, number_in}
-use Rattle.wording.specs.declared.orders.Number.TheVariants.{Of, None}
+use Rattle.std.specs.Prelude.{Some, None}
 
 pub digit_range : (b : ℕ) → is_digit b ≡ true → (48 ≤ b) × (b ≤ 57)
 digit_range b e = go (leb 48 b) (leb b 57) refl refl e
@@ -72,14 +72,11 @@ not_one_to_three s (inr h) = go (leb 1 (length s)) refl
     go true e = rw (e, lt-leb (length s) 3 h) refl
     go false e = rw e refl
 
-pub more_than_three : (s : List ℕ) → 3 < length s → None ≡ number_in s
-more_than_three s h = sym (not_one_to_three s (inr h))
-
 module _ (s : List ℕ) (few : length s ≤ 3) (some : 1 ≤ length s) where
   pub not_all_digits : all_digits s ≡ false → number_in s ≡ None
   unfolding is_number number_in
   not_all_digits e = rw (le-leb 1 (length s) some, le-leb (length s) 3 few, e) refl
 
-  pub is_the_number : (v : ℕ) → all_digits s ≡ true → value_of s ≡ v → number_in s ≡ Of (record { 0 = v })
+  pub is_the_number : (v : ℕ) → all_digits s ≡ true → value_of s ≡ v → number_in s ≡ Some (record { 0 = v })
   unfolding is_number number_in
   is_the_number v e w = rw (le-leb 1 (length s) some, le-leb (length s) 3 few, e, w) refl

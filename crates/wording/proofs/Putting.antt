@@ -1,10 +1,11 @@
 -- Bytes put into an output: one after the other they stand as if they had been put at once.
-use mathlib.Core.Path.{◌≡◌, refl, sym, ap, subst, ◌∙◌}
+use mathlib.Core.Path.{◌≡◌, refl, sym, ap, ap₂, subst, ◌∙◌}
 use mathlib.Core.List.{List, [], ◌∷◌, ◌++◌, append-nil, append_assoc}
-use Prim.Native.Nat.{ℕ, suc, ◌+◌, ◌≤◌, ◌<◌, min}
+use Prim.Native.Nat.{ℕ, suc, ◌+◌, ◌-◌, ◌≤◌, ◌<◌, min}
 use native.Mathlib.Omega.{arith, min_cases}
-use lib.ListN.{length, length-append, take, set, length-set}
+use lib.ListN.{length, length-append, take, drop, set, length-set, drop_of_length-le}
 use lib.Seq.{set_out, take-suc-set}
+use Rattle.std.proofs.lemmas.List.{drop-drop, drop-set-lt, take-append-drop, length-take-le}
 use Rattle.wording.specs.Writing.{digit_of, decimal, put_over, Puts}
 use Rattle.wording.proofs.Digits.{decimal_one}
 
@@ -85,3 +86,45 @@ put_stands out at (b ∷ s) h =
 pub put_in_front : (out s : List ℕ) → length s ≤ length out → take (length s) (put_over out 0 s) ≡ s
 put_in_front out s h =
     let count : 0 + length s ≡ length s = omega arith in rw count at (put_stands out 0 s (omega (arith, h)))
+
+-- what stands behind the bytes stays
+put_leaves : (out : List ℕ) (at : ℕ) (s : List ℕ) → drop (at + length s) (put_over out at s) ≡ drop (at + length s) out
+unfolding put_over
+put_leaves out at [] = refl
+put_leaves out at (b ∷ s) =
+    let count : at + suc (length s) ≡ suc at + length s = omega arith in
+    rw count (put_leaves (set out at b) (suc at) s ∙ drop-set-lt (suc at + length s) out at b (omega arith))
+
+put_fitting : (out : List ℕ) (at : ℕ) (s : List ℕ) → at + length s ≤ length out
+    → put_over out at s ≡ take at out ++ (s ++ drop (length s) (drop at out))
+put_fitting out at s h =
+    sym (take-append-drop (at + length s) (put_over out at s))
+    ∙ ap₂ (λ front rest. front ++ rest) (put_stands out at s h) (put_leaves out at s ∙ sym (drop-drop (length s) at out))
+    ∙ append_assoc (take at out) s (drop (length s) (drop at out))
+
+-- as many bytes as fit are put at once, from a place in the output
+put_at_once : (out s : List ℕ) (at n : ℕ) → at ≤ length out → n ≡ min (length s) (length out - at)
+    → put_over out at s ≡ take at out ++ (take n s ++ drop n (drop at out))
+unfolding put_over
+put_at_once out s at n inside is =
+    let long : length (take n s) ≡ n = length-take-le n s (omega (arith, is)) in
+    let whole : put_over out at s ≡ put_over (put_over out at (take n s)) (at + n) (drop n s) =
+    rw (take-append-drop n s, long) at (put_append out at (take n s) (drop n s)) in
+    let kept : length (put_over out at (take n s)) ≡ length out = put_length out at (take n s) in
+    let behind : put_over (put_over out at (take n s)) (at + n) (drop n s) ≡ put_over out at (take n s) =
+    min_cases (length s) (length out - at) _
+    (λ h e. let none : drop n s ≡ [] = drop_of_length-le s (omega (arith, is, e)) in rw none refl)
+    (λ h e. put_behind (put_over out at (take n s)) (at + n) (drop n s) (omega (arith, is, e, inside, kept)))
+    in
+    whole ∙ behind ∙ rw long at (put_fitting out at (take n s) (omega (arith, long, is, inside)))
+
+pub puts_at_once : (out s part : List ℕ) (at from n k : ℕ) → from ≡ min at (length out) → n ≡ min (length s) (length out - from)
+    → k ≡ n → part ≡ take n s → Puts out at s (from + n) (take from out ++ (part ++ drop k (drop from out)))
+puts_at_once out s part at from n k from-is n-is k-is part-is =
+    record {
+      output =
+          rw (k-is, part-is) (sym (put_at_once out s from n (omega (arith, from-is)) n-is))
+          ∙ ap (λ (j : ℕ). put_over out j s) from-is
+          ∙ put_cut out at s;
+      place = omega (arith, from-is, n-is);
+    }

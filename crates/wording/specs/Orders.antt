@@ -1,13 +1,13 @@
 -- Document 01, "Program": the call that a line is.
 use Rattle.std.specs.Prelude.{◌≡◌, Bool, true, false, cond, ◌&&◌, List, [], ◌∷◌, ℕ, ◌+◌, ◌*◌, ◌-◌, ◌≤◌, leb, length, drop}
+use Rattle.std.specs.Prelude.{Option as Maybe, Some, None}
 use Rattle.std.proofs.Math.Option.{Option, some, none}
+use Rattle.standing.specs.declared.numbers.Terminal.{Terminal}
 use Rattle.meaning.specs.Names.{same}
 use Rattle.meaning.specs.Calls.{Call}
 use Rattle.meaning.specs.Calls.Call.{ask, finish, withdraw}
 use Rattle.text.specs.Classes.{is_digit}
 use Rattle.wording.specs.Lines.{fields_of}
-use Rattle.wording.specs.declared.orders.Number.{Number}
-use Rattle.wording.specs.declared.orders.Number.TheVariants.{Of, None}
 use Rattle.wording.specs.declared.orders.Order.{Order}
 use Rattle.wording.specs.declared.orders.Order.TheVariants.{Ask, Finish, Withdraw, Unreadable}
 
@@ -71,16 +71,16 @@ call_of line = call_in (fields_of line)
 -- ---- For the functions inside: the contract of `read_line` does not speak of these three.
 
 -- the number that some bytes are, as the program holds it
-unfoldable pub number_in : List ℕ → Number
-number_in s = cond (is_number s) (Of (record { 0 = value_of s })) None
+unfoldable pub number_in : List ℕ → Maybe Terminal
+number_in s = cond (is_number s) (Some (record { 0 = value_of s })) None
 
 -- what is read in two fields, and in the last two of three: a number, and a name that starts at a place
-abbrev pub two_read : List ℕ → Number → Order
-two_read word (Of t) = cond (same word finish_word) (Finish t) (cond (same word withdraw_word) (Withdraw t) Unreadable)
+abbrev pub two_read : List ℕ → Maybe Terminal → Order
+two_read word (Some t) = cond (same word finish_word) (Finish t) (cond (same word withdraw_word) (Withdraw t) Unreadable)
 two_read word None = Unreadable
 
-abbrev pub three_read : Number → ℕ → Order
-three_read (Of t) from = Ask (record { terminal = t; from = from })
+abbrev pub three_read : Maybe Terminal → ℕ → Order
+three_read (Some t) from = Ask (record { terminal = t; from = from })
 three_read None from = Unreadable
 
 -- ---- The contract of `read_line`.

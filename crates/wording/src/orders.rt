@@ -1,16 +1,15 @@
 // What a line of the input asks for: `ask T NAME`, `finish T` or `withdraw T`, or nothing that can be read.
 ghost use Rattle.std.specs.Prelude.{◌≡◌, ◌≤◌, length, drop, ◌∷◌};
 ghost use Rattle.meaning.specs.Names.{same};
-ghost use Rattle.text.specs.Classes.{is_digit};
 ghost use Rattle.wording.specs.Lines.{before, fields_of};
 ghost use Rattle.wording.specs.Orders.{Reads, ReadsAs, number_in, two_read, three_read, ask_word};
 
 use standing::numbers::Terminal;
 
 // What stands between fields, and what ends a line.
-pub const SPACE: u8 = 32;
+pub const SPACE: u8 = b' ';
 
-pub const LF: u8 = 10;
+pub const LF: u8 = b'\n';
 
 // An ask: who asks, and where in the line the name starts.
 #[derive(Clone, Copy)]
@@ -27,105 +26,61 @@ pub enum Order {
     Unreadable,
 }
 
-// A number of 1 to 3 digits.
-#[derive(Clone, Copy)]
-enum Number {
-    Of(Terminal),
-    None,
-}
-
 // How many bytes stand before the first that is b.
 pub fn bytes_before(s: &[u8], b: u8) -> usize
     ensures { result ≡ before b s.now }
 {
-    let mut i: usize = 0;
-    while i < s.len() {
-        if s[i] == b {
-            return i;
-        }
-        i += 1;
-    }
-    i
+    s.iter().position(|x| *x == b).unwrap_or(s.len())
 }
 
 // Whether the bytes are those of a word.
+#[tactic(auto, using(crate::proofs::Firsts::same_bytes))]
 fn is_word(s: &[u8], word: &[u8]) -> bool
     ensures { result ≡ same s.now word.now }
 {
-    if s.len() != word.len() {
-        return false;
-    }
-    let mut i: usize = 0;
-    while i < s.len() {
-        if s[i] != word[i] {
-            return false;
-        }
-        i += 1;
-    }
-    true
+    s == word
 }
 
-fn is_digit(b: u8) -> bool
-    ensures { result ≡ is_digit b }
-{
-    if b < 48 {
-        return false;
-    }
-    b <= 57
-}
-
-// The number that all of the bytes are.
-#[tactic(auto, using(crate::proofs::Numbers::more_than_three))]
-fn number_in(s: &[u8]) -> Number
+// The number that all of the bytes are, 1 to 3 digits.
+fn number_in(s: &[u8]) -> Option<Terminal>
     ensures { result ≡ number_in s.now }
 {
-    if s.len() == 0 {
-        return Number::None;
-    }
-    if 3 < s.len() {
-        return Number::None;
+    if s.is_empty() || 3 < s.len() {
+        return None;
     }
     let mut value: u16 = 0;
-    let mut i: usize = 0;
-    while i < s.len() {
-        let b = s[i];
-        if !is_digit(b) {
-            return Number::None;
+    for b in s {
+        if !b.is_ascii_digit() {
+            return None;
         }
-        value = value * 10 + (b - 48) as u16;
-        i += 1;
+        value = value * 10 + u16::from(*b - b'0');
     }
-    Number::Of(Terminal(value))
+    Some(Terminal(value))
 }
 
 // A finish or a withdrawal: a word, and the number behind it.
-fn read_two(word: &[u8], number: Number) -> Order
+fn read_two(word: &[u8], number: Option<Terminal>) -> Order
     ensures { result ≡ two_read word.now number }
 {
-    match number {
-        Number::Of(t) => {
-            if is_word(word, b"finish") {
-                return Order::Finish(t);
-            }
-            if is_word(word, b"withdraw") {
-                return Order::Withdraw(t);
-            }
-            Order::Unreadable
-        }
-        Number::None => Order::Unreadable,
+    let Some(t) = number else {
+        return Order::Unreadable;
+    };
+    if is_word(word, b"finish") {
+        return Order::Finish(t);
     }
+    if is_word(word, b"withdraw") {
+        return Order::Withdraw(t);
+    }
+    Order::Unreadable
 }
 
 // An ask by a number, for the name that starts at a place.
-fn read_three(number: Number, from: usize) -> Order
+fn read_three(number: Option<Terminal>, from: usize) -> Order
     ensures { result ≡ three_read number from }
 {
     match number {
-        Number::Of(t) => Order::Ask(Asking {
-            terminal: t,
-            from: from,
-        }),
-        Number::None => Order::Unreadable,
+        Some(terminal) => Order::Ask(Asking { terminal, from }),
+        None => Order::Unreadable,
     }
 }
 
@@ -157,8 +112,9 @@ pub fn read_line(line: &[u8]) -> Order
         return Order::Unreadable;
     }
     let from = end + 1;
-    if is_word(&line[..end], b"ask") {
+    let word = &line[..end];
+    if is_word(word, b"ask") {
         return read_ask(line, from);
     }
-    read_two(&line[..end], number_in(&line[from..]))
+    read_two(word, number_in(&line[from..]))
 }

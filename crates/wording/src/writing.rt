@@ -3,8 +3,6 @@
 ghost use Rattle.std.specs.Prelude.{List, ◌∷◌, [], ◌≡◌, ◌<◌};
 ghost use Rattle.wording.specs.Writing.{Puts, decimal, digit_of};
 
-use standing::numbers::least;
-
 // One byte.
 pub fn put(out: &mut [u8], at: usize, b: u8) -> usize
     ensures { Puts out.old at (b ∷ []) result out.new }
@@ -16,17 +14,14 @@ pub fn put(out: &mut [u8], at: usize, b: u8) -> usize
     out.len()
 }
 
-// All of some bytes.
+// All of some bytes: as many as fit are copied at once.
 pub fn put_bytes(out: &mut [u8], at: usize, s: &[u8]) -> usize
     ensures { Puts out.old at s.now result out.new }
 {
-    let mut k = least(at, out.len());
-    let mut i: usize = 0;
-    while i < s.len() {
-        k = put(out, k, s[i]);
-        i += 1;
-    }
-    k
+    let from = at.min(out.len());
+    let fits = s.len().min(out.len() - from);
+    out[from..from + fits].copy_from_slice(&s[..fits]);
+    from + fits
 }
 
 // The sign of a digit.
@@ -34,7 +29,7 @@ fn digit(n: u64) -> u8
     requires { n < 10 }
     ensures { result ≡ digit_of n }
 {
-    48 + n as u8
+    b'0' + n as u8
 }
 
 // A number, without leading zeros: all but its last digit first.

@@ -5,7 +5,7 @@ use Rattle.linerun.proofs.run.Goals as goal
 
 pub returns : goal.returns
 returns g c =
-    written c.write_pieces.result _ _ _ _
+    written c.write_all.result _ _ _ _
     (whole_input _ _ c.read_full.new.buffer _ c.in_ok-n.n (search rules) c.in_ok-n.ensures.within c.in_ok-n.ensures.bytes c.in_ok-n.ensures.end
     (whole_transcript _ _ _ _ c.transcript-said.ensures (search rules)))
-    c.write_pieces.ensures
+    c.write_all.ensures.bytes

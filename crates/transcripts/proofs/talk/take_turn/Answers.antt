@@ -5,20 +5,20 @@ use Rattle.transcripts.proofs.talk.take_turn.Goals as goal
 
 pub returns-in-Ask : goal.returns-in-Ask
 returns-in-Ask c =
-    ask_turned _ c.read_line-order.ensures _
+    ask_turned _ c.read_line.ensures _
     c.in-Ask.is c.ask_turn.ensures
 
 pub returns-in-Finish : goal.returns-in-Finish
 returns-in-Finish c =
-    finish_turned _ c.read_line-order.ensures _
+    finish_turned _ c.read_line.ensures _
     c.in-Finish.is c.finish_turn.ensures
 
 pub returns-in-Withdraw : goal.returns-in-Withdraw
 returns-in-Withdraw c =
-    withdraw_turned _ c.read_line-order.ensures _
+    withdraw_turned _ c.read_line.ensures _
     c.in-Withdraw.is c.withdraw_turn.ensures
 
 pub returns-in-Unreadable : goal.returns-in-Unreadable
 returns-in-Unreadable c =
-    unread_turned _ c.read_line-order.ensures
+    unread_turned _ c.read_line.ensures
     c.in-Unreadable.is refl refl c.put_refused-at.ensures

@@ -6,7 +6,7 @@ use Rattle.transcripts.proofs.Onward.{none_told, all_told, one_more_told, line_w
 use Rattle.transcripts.proofs.talk.talk.Goals as goal
 
 pub loop-i-init : goal.loop-i-init
-loop-i-init c = none_told _ _ _ _ _ _ c.least-k.ensures
+loop-i-init c = none_told _ _ _ _ _ _ c.min-k.ensures
 
 pub overflow_add-end : goal.overflow_add-end
 overflow_add-end c =

@@ -1,18 +1,8 @@
--- `writing::put_bytes` meets its contract. The invariant: the first i bytes are put.
-use mathlib.Core.Path.{sym}
-use native.Mathlib.Numerals.{add-one}
+-- `writing::put_bytes` meets its contract: the bytes that fit are put at once.
 use native.Mathlib.Omega.{arith}
-use lib.Seq.{take-suc}
-use Rattle.wording.proofs.Putting.{puts_nothing, puts_more, puts_as}
+use Rattle.wording.proofs.Putting.{puts_at_once}
 use Rattle.wording.proofs.writing.put_bytes.Goals as goal
 
-pub loop-i-init : goal.loop-i-init
-loop-i-init c = (omega arith, rw c.least-k.ensures (puts_nothing _ _))
-
-pub loop-i-preserved : goal.loop-i-preserved
-loop-i-preserved c =
-    let turn-test = c.loop-i-test in (
-      omega arith,
-      puts_as (sym (rw (add-one c.loop-i.i) (take-suc _ _ 0 turn-test.true)))
-          (puts_more c.loop-i.invariant.1 c.put-k.ensures),
-    )
+pub returns : goal.returns
+returns c =
+    puts_at_once c.args.out.now c.args.s.now _ _ _ _ _ c.min-from.ensures c.min-fits.ensures (omega arith) c.copy_from_slice.ensures.after

@@ -1,0 +1,36 @@
+-- What `position` and `==` of slices answer, in the words of the lines.
+use Rattle.std.proofs.Common.{◌≡◌, ℕ, Bool, true, false, cond, not, ◌&&◌, List, [], ◌∷◌, Some, None, length, ltb, ◌≤◌, refl, ap, ◌∙◌, arith}
+use Rattle.std.proofs.lemmas.Grind.{common_steps}
+use Rattle.std.specs.Prelude.{eqb}
+use Rattle.std.specs.Option.{unwrap_or}
+use Rattle.std.specs.List.{position, position_or_len, prefix_len}
+use Rattle.std.specs.Str.{bytes_eq}
+use Rattle.std.proofs.lemmas.List.Sums.{prefix_len-le-length}
+use Rattle.meaning.specs.Names.{same}
+use Rattle.text.specs.Tokens.{span}
+use Rattle.wording.specs.Lines.{before}
+
+span_is : (test : ℕ → Bool) (s : List ℕ) → prefix_len test s ≡ span test s
+unfolding span
+span_is test [] = refl
+span_is test (b ∷ s) = go (test b) refl (span_is test s)
+  where
+    go : (t : Bool) → test b ≡ t → prefix_len test s ≡ span test s → prefix_len test (b ∷ s) ≡ span test (b ∷ s)
+    go true e rest = rw (e, rest) (omega arith)
+    go false e rest = rw e refl
+
+unwrap_cut : (a n : ℕ) → a ≤ n → unwrap_or (cond (ltb a n) (Some a) None) n ≡ a
+unwrap_cut a n h = grind (arith, common_steps)
+
+-- the first place of b, or the end
+pub before_first : (b : ℕ) (s : List ℕ) → unwrap_or (position (λ x. eqb x b) s) (length s) ≡ before b s
+before_first b s =
+    unwrap_cut (position_or_len (λ x. eqb x b) s) (length s) (prefix_len-le-length _ s) ∙ span_is (λ x. not (eqb x b)) s
+
+-- two have the same bytes
+pub same_bytes : (s t : List ℕ) → bytes_eq s t ≡ same s t
+unfolding same
+same_bytes [] [] = refl
+same_bytes [] (b ∷ t) = refl
+same_bytes (a ∷ s) [] = refl
+same_bytes (a ∷ s) (b ∷ t) = ap (λ r. eqb a b && r) (same_bytes s t)
