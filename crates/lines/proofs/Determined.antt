@@ -6,10 +6,7 @@ use Rattle.table.specs.declared.cells.Table.{Table}
 use Rattle.standing.specs.declared.numbers.Terminal.{Terminal}
 use Rattle.standing.specs.declared.entries.Entry.{Entry}
 use Rattle.standing.specs.declared.records.Session.{Session}
-use Rattle.steps.specs.declared.replies.OpenReply.{OpenReply}
-use Rattle.steps.specs.declared.replies.AskReply.{AskReply}
-use Rattle.steps.specs.declared.replies.FinishReply.{FinishReply}
-use Rattle.steps.specs.declared.replies.WithdrawReply.{WithdrawReply}
+use Rattle.steps.specs.Answers.{OpenReply, AskReply, FinishReply, WithdrawReply}
 use Rattle.steps.specs.Calling.{Opens, Asks, Finishes, Withdraws}
 use Rattle.steps.proofs.CallsDetermined.{open_determined, ask_determined, finish_determined, withdraw_determined}
 use Rattle.lines.specs.declared.held.Line.{Line}

@@ -24,14 +24,13 @@ use Rattle.standing.specs.declared.records.State.TheVariants.{Free, Running}
 use Rattle.standing.specs.declared.searches.Found.{Found}
 use Rattle.standing.specs.declared.searches.Found.TheVariants.{Nobody, At}
 use Rattle.standing.specs.Lists.{in_use, seek}
-use Rattle.steps.specs.declared.replies.AskReply.TheVariants.{Refused as AskRefused}
-use Rattle.steps.specs.declared.replies.FinishReply.TheVariants.{Refused as FinishRefused}
-use Rattle.steps.specs.declared.replies.WithdrawReply.TheVariants.{Refused as WithdrawRefused}
+use Rattle.std.specs.Prelude.{Err}
 use Rattle.steps.specs.Calling.Serves.{refuses}
 use Rattle.steps.specs.Refusals.{Row, First, None, terminal_of, Runs, Waits}
 use Rattle.steps.specs.Refusals.Row.{terminal_above_63, no_such_operation, ask_by_the_running, ask_by_a_waiting}
 use Rattle.steps.specs.Refusals.Row.{finish_by_another, withdraw_by_another}
 use Rattle.steps.specs.Values.{runs_in, is_found}
+use Rattle.steps.proofs.RefusalNumbers.{refusal_by, row_has_refusal}
 use Rattle.steps.proofs.RowNumbers.{rows_left, ask_rows_left, finish_rows_left, withdraw_rows_left}
 use Rattle.steps.proofs.Verdicts.{runs_says, entry_waits}
 use Rattle.simulation.specs.Runs.{ReplyTo, Leaves}
@@ -136,28 +135,28 @@ module _ (s : Session) (l : List Entry) (i : Line) (a : Alike s.table s l i) whe
   unfolding step
   refused_alike (ask u n) m e first =
       record {
-        reply = AskRefused m;
+        reply = Err (refusal_by m);
         session = s;
         list = l;
-        leaves = refuses m first refl;
-        same_reply = rw e;
+        leaves = refuses m first (rw (row_has_refusal first.applies));
+        same_reply = rw (e, row_has_refusal first.applies);
         still_alike = rw e a;
       }
   refused_alike (finish u) m e first =
       record {
-        reply = FinishRefused m;
+        reply = Err (refusal_by m);
         session = s;
         list = l;
-        leaves = refuses m first refl;
-        same_reply = rw e;
+        leaves = refuses m first (rw (row_has_refusal first.applies));
+        same_reply = rw (e, row_has_refusal first.applies);
         still_alike = rw e a;
       }
   refused_alike (withdraw u) m e first =
       record {
-        reply = WithdrawRefused m;
+        reply = Err (refusal_by m);
         session = s;
         list = l;
-        leaves = refuses m first refl;
-        same_reply = rw e;
+        leaves = refuses m first (rw (row_has_refusal first.applies));
+        same_reply = rw (e, row_has_refusal first.applies);
         still_alike = rw e a;
       }

@@ -32,11 +32,11 @@ use Rattle.standing.specs.declared.searches.Found.TheVariants.{Nobody, At}
 use Rattle.standing.specs.Lists.{blank_entry, in_use, place_of, put_at, taken_out}
 use Rattle.standing.specs.Soundness.{meets_set}
 use Rattle.standing.proofs.Seeking.{Finds, seek_finds, found_in_use}
-use Rattle.steps.specs.declared.replies.AskReply.TheVariants.{Granted, Delayed}
+use Rattle.std.specs.Prelude.{Ok}
+use Rattle.steps.specs.declared.replies.Ask.TheVariants.{Granted, Delayed}
+use Rattle.steps.specs.Answers.{FinishReply, WithdrawReply}
 use Rattle.steps.specs.declared.replies.Grant.{Grant}
 use Rattle.steps.specs.declared.replies.Next.TheVariants.{Granted as Grants, Nobody as NoNext}
-use Rattle.steps.specs.declared.replies.FinishReply.TheVariants.{Finished}
-use Rattle.steps.specs.declared.replies.WithdrawReply.TheVariants.{Withdrawn}
 use Rattle.steps.specs.Steps.{is_free, granting, counting, freed, ask_step as built_ask, picked as built_pick}
 use Rattle.steps.specs.Steps.{examined_to as built_examined, finish_step, entry_of as built_entry, withdraw_step}
 use Rattle.steps.specs.Calling.{entry_for}
@@ -123,15 +123,15 @@ module _ (s : Session) (l : List Entry) (i : Line) (a : Alike s.table s l i) whe
     unfolding step ask_step built_ask
     ask_granted test =
         let (is_free, permitted) = (and-eq-true_iff (free i.running) _).0 (ideal_test true test) in
-        let by : Leaves s l (ask u n) Granted (granting s e s.waiting) l = does none-applies (rw test) in
+        let by : Leaves s l (ask u n) (Ok Granted) (granting s e s.waiting) l = does none-applies (rw test) in
         record {
-          reply = Granted;
+          reply = Ok Granted;
           session = granting s e s.waiting;
           list = l;
           leaves = by;
           same_reply = rw (goes_on, ideal_test true test);
           still_alike = rw (goes_on, ideal_test true test)
-              (alike_after (ask u n) Granted (granting s e s.waiting) l (grants i asked_for i.waiting) by refl permitted
+              (alike_after (ask u n) (Ok Granted) (granting s e s.waiting) l (grants i asked_for i.waiting) by refl permitted
               (shared_alike u s.set (free_set i.running is_free a.its_set) (key n) e.operation.0 permission_same)
               refl a.same_entries);
         }
@@ -141,21 +141,21 @@ module _ (s : Session) (l : List Entry) (i : Line) (a : Alike s.table s l i) whe
     ask_delayed test =
         let place = place_of (in_use s l) e in
         let later = counting s (suc s.waiting) in
-        let by : Leaves s l (ask u n) (Delayed place) later (put_at place e l) = does none-applies (rw test) in
-        let room = (leaves_sound s later l _ (ask u n) (Delayed place) by a.is_sound).record_sound.count_most in
+        let by : Leaves s l (ask u n) (Ok (Delayed place)) later (put_at place e l) = does none-applies (rw test) in
+        let room = (leaves_sound s later l _ (ask u n) (Ok (Delayed place)) by a.is_sound).record_sound.count_most in
         let es = i.waiting in
         let waits : Line = record { history = i.history; running = i.running; waiting = put (placed es asked_for) asked_for es } in
         let same_place : placed es asked_for ≡ place = rw (← a.same_entries) (place_heard (entry_heard t) (in_use s l) e) in
         let entries : map (entry_heard t) (take (suc s.waiting) (put_at place e l)) ≡ waits.waiting =
         rw (← a.same_entries, ← entry_same) (put_heard (entry_heard t) s.waiting l e (omega (arith, room, a.long_list))) in
         record {
-          reply = Delayed place;
+          reply = Ok (Delayed place);
           session = later;
           list = put_at place e l;
           leaves = by;
           same_reply = rw (goes_on, ideal_test false test, same_place);
           still_alike = rw (goes_on, ideal_test false test)
-              (alike_after (ask u n) (Delayed place) later (put_at place e l) waits by refl a.grants_permitted a.its_set
+              (alike_after (ask u n) (Ok (Delayed place)) later (put_at place e l) waits by refl a.grants_permitted a.its_set
               a.same_runner entries);
         }
 
@@ -200,7 +200,7 @@ module _ (s : Session) (l : List Entry) (i : Line) (a : Alike s.table s l i) whe
     handed_alike : (f : Found) → built_pick (freed s) l ≡ f → Picks f → Answered t s l i (finish u)
     unfolding step finish_step
     handed_alike Nobody is finds =
-        let reply = Finished (record { examined = built_examined (freed s) l Nobody; next = NoNext }) in
+        let reply : FinishReply = Ok (record { examined = built_examined (freed s) l Nobody; next = NoNext }) in
         let by : Leaves s l (finish u) reply (freed s) l = does none-applies (rw is) in
         let after : Line = record { history = i.history; running = none; waiting = i.waiting } in
         record {
@@ -216,7 +216,7 @@ module _ (s : Session) (l : List Entry) (i : Line) (a : Alike s.table s l i) whe
     handed_alike (At w) is finds =
         let e = w.entry in
         let grant : Grant = record { terminal = e.terminal; operation = e.operation } in
-        let reply = Finished (record { examined = built_examined (freed s) l (At w); next = Grants grant }) in
+        let reply : FinishReply = Ok (record { examined = built_examined (freed s) l (At w); next = Grants grant }) in
         let later = granting (freed s) e (s.waiting - 1) in
         let left = taken_out s.waiting w.place l in
         let by : Leaves s l (finish u) reply later left = does none-applies (rw is) in
@@ -249,7 +249,7 @@ module _ (s : Session) (l : List Entry) (i : Line) (a : Alike s.table s l i) whe
     unfolding step withdraw_step built_entry
     taken_back_alike Nobody is finds =
         record {
-          reply = Withdrawn 0;
+          reply = Ok 0;
           session = s;
           list = l;
           leaves = does none-applies (rw is);
@@ -257,7 +257,7 @@ module _ (s : Session) (l : List Entry) (i : Line) (a : Alike s.table s l i) whe
           still_alike = rw (goes_on, entry_alike s l i a u, is) a;
         }
     taken_back_alike (At w) is finds =
-        let reply = Withdrawn w.place in
+        let reply : WithdrawReply = Ok w.place in
         let later = counting s (s.waiting - 1) in
         let left = taken_out s.waiting w.place l in
         let by : Leaves s l (withdraw u) reply later left = does none-applies (rw is) in

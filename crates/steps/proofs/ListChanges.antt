@@ -15,12 +15,10 @@ use Rattle.meaning.specs.Calls.Call.{ask}
 use Rattle.standing.specs.declared.numbers.Terminal.{Terminal}
 use Rattle.standing.specs.declared.entries.Entry.{Entry}
 use Rattle.standing.specs.declared.records.Session.{Session}
-use Rattle.steps.specs.declared.replies.AskReply.{AskReply}
-use Rattle.steps.specs.declared.replies.FinishReply.{FinishReply}
-use Rattle.steps.specs.declared.replies.WithdrawReply.{WithdrawReply}
 use Rattle.standing.specs.declared.searches.Waiter.{Waiter}
 use Rattle.standing.specs.declared.searches.Found.{Found}
 use Rattle.standing.specs.declared.searches.Found.TheVariants.{Nobody, At}
+use Rattle.steps.specs.Answers.{AskReply, FinishReply, WithdrawReply}
 use Rattle.steps.specs.Calling.{Asks, Finishes, Withdraws, entry_for}
 use Rattle.standing.specs.Lists.{in_use, taken_out}
 use Rattle.standing.specs.Promises.{TakenOut}

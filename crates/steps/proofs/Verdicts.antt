@@ -23,9 +23,13 @@ use Rattle.standing.specs.declared.searches.Found.TheVariants.{Nobody, At}
 use Rattle.standing.specs.Lists.{blank_entry, in_use, seek}
 use Rattle.standing.specs.Searching.{searching, looked}
 use Rattle.standing.specs.Soundness.{RecordSound, Sound}
+use Rattle.std.specs.Prelude.{Result, Ok, Err}
+use Rattle.steps.specs.declared.replies.CallRefusal.{CallRefusal}
+use Rattle.steps.specs.declared.replies.CallRefusal.TheVariants.{ShortList, Unsound, NoTerminal}
+use Rattle.steps.specs.Answers.{number_of}
 use Rattle.steps.specs.Refusals.{Row, First, terminal_of, Waits}
 use Rattle.steps.specs.Refusals.Row.{short_list, unsound, terminal_above_63}
-use Rattle.steps.specs.Values.{first_number, runs_in, is_found}
+use Rattle.steps.specs.Values.{first_refusal, runs_in, is_found}
 use Rattle.standing.proofs.Looking.{looked_own}
 use Rattle.steps.proofs.RowNumbers.{rows_left}
 use Rattle.standing.proofs.Seeking.{Finds, seek_finds}
@@ -87,19 +91,19 @@ module _ (s : Session) (l : List Entry) (t : Terminal) (w : ℕ) where
     pub below : t.0 < 64
 
   module _ (sound : Bool) (says : (sound ≡ true) ↔ RecordSound s) where
-    abbrev number : ℕ
-    number = first_number sound (length l) found t
+    abbrev verdict : Result (Unit {0}) CallRefusal
+    verdict = first_refusal sound (length l) found t
 
     -- the first of 8, 9 and 10 that applies to a call, or none
     pub data Common (c : Call) : Type 0 where
-      stops : (m : ℕ) → eqb m 0 ≡ false → number ≡ m → First (Row s l c) m → Common c
-      goes : number ≡ 0 → Passed → Common c
+      stops : (r : CallRefusal) → verdict ≡ Err r → First (Row s l c) (number_of r) → Common c
+      goes : verdict ≡ Ok tt → Passed → Common c
 
     module _ (c : Call) (whose : terminal_of c ≡ t.0) where
       past_sound : (long : 64 ≤ length l) → sound ≡ true → RecordSound s → (b : Bool) → found.fits ≡ b → Common c
-      unfolding first_number
+      unfolding first_refusal
       past_sound long e r false fits =
-          stops 9 refl (rw (le-ltb (length l) 64 long, e, fits))
+          stops Unsound (rw (le-ltb (length l) 64 long, e, fits))
           (record {
             applies = unsound (λ d. false≢true (sym fits ∙ (looking_decides s l t w long r).1 d));
             none_before = λ k before row. absurd (omega (arith, before, (rows_left s l row).1 long));
@@ -111,7 +115,7 @@ module _ (s : Session) (l : List Entry) (t : Terminal) (w : ℕ) where
           goes (rw (le-ltb (length l) 64 long, e, fits, le-ltb 63 t.0 (omega (arith, below))))
           (record { long = long; is_sound = d; below = below }))
           (λ above.
-          stops 10 refl (rw (le-ltb (length l) 64 long, e, fits, lt-ltb 63 t.0 (omega (arith, above))))
+          stops NoTerminal (rw (le-ltb (length l) 64 long, e, fits, lt-ltb 63 t.0 (omega (arith, above))))
           (record {
             applies = terminal_above_63 (omega (arith, above, whose));
             none_before = λ k before row. absurd (omega (arith, before, (rows_left s l row).2 long d));
@@ -119,9 +123,9 @@ module _ (s : Session) (l : List Entry) (t : Terminal) (w : ℕ) where
           (below_or_not t.0 64)
 
       past_length : (long : 64 ≤ length l) → (b : Bool) → sound ≡ b → Common c
-      unfolding first_number
+      unfolding first_refusal
       past_length long false e =
-          stops 9 refl (rw (le-ltb (length l) 64 long, e))
+          stops Unsound (rw (le-ltb (length l) 64 long, e))
           (record {
             applies = unsound (λ d. false≢true (sym e ∙ says.1 d.record_sound));
             none_before = λ k before row. absurd (omega (arith, before, (rows_left s l row).1 long));
@@ -129,11 +133,11 @@ module _ (s : Session) (l : List Entry) (t : Terminal) (w : ℕ) where
       past_length long true e = past_sound long e (says.0 e) found.fits refl
 
       pub common : Common c
-      unfolding first_number
+      unfolding first_refusal
       common =
           ⊎_elim
           (λ short.
-          stops 8 refl (rw (lt-ltb (length l) 64 short))
+          stops ShortList (rw (lt-ltb (length l) 64 short))
           (record {
             applies = short_list short;
             none_before = λ k before row. absurd (omega (arith, before, (rows_left s l row).0));

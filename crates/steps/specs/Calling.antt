@@ -8,10 +8,7 @@ use Rattle.table.specs.declared.cells.Table.{Table}
 use Rattle.standing.specs.declared.numbers.Terminal.{Terminal}
 use Rattle.standing.specs.declared.entries.Entry.{Entry}
 use Rattle.standing.specs.declared.records.Session.{Session}
-use Rattle.steps.specs.declared.replies.OpenReply.{OpenReply}
-use Rattle.steps.specs.declared.replies.AskReply.{AskReply}
-use Rattle.steps.specs.declared.replies.FinishReply.{FinishReply}
-use Rattle.steps.specs.declared.replies.WithdrawReply.{WithdrawReply}
+use Rattle.steps.specs.Answers.{OpenReply, AskReply, FinishReply, WithdrawReply}
 use Rattle.steps.specs.Answers.{open_answer, ask_answer, finish_answer, withdraw_answer}
 use Rattle.steps.specs.Answers.Answer.{refused}
 use Rattle.steps.specs.Refusals.{Row, OpenRow, First, None}

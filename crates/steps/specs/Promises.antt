@@ -9,10 +9,7 @@ use Rattle.standing.specs.declared.entries.Entry.{Entry}
 use Rattle.standing.specs.declared.records.Session.{Session}
 use Rattle.standing.specs.declared.searches.Waiter.{Waiter}
 use Rattle.standing.specs.declared.searches.Found.TheVariants.{At}
-use Rattle.steps.specs.declared.replies.OpenReply.{OpenReply}
-use Rattle.steps.specs.declared.replies.AskReply.{AskReply}
-use Rattle.steps.specs.declared.replies.FinishReply.{FinishReply}
-use Rattle.steps.specs.declared.replies.WithdrawReply.{WithdrawReply}
+use Rattle.steps.specs.Answers.{OpenReply, AskReply, FinishReply, WithdrawReply}
 use Rattle.steps.specs.Answers.{open_answer, ask_answer, finish_answer, withdraw_answer}
 use Rattle.steps.specs.Answers.Answer.{opened}
 use Rattle.standing.specs.Soundness.{Sound, entry_in}

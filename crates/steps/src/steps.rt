@@ -8,7 +8,7 @@ ghost use Rattle.steps.specs.Steps.{is_free, opening, granting, counting, freed}
 ghost use Rattle.steps.specs.Values.{over_table, one_more, ask_core, hand_core, finish_core, withdraw_core};
 
 use crate::outcomes::{Asked, Handed, Withdrawn};
-use crate::replies::{AskReply, FinishReply, Finished, Grant, Next, WithdrawReply};
+use crate::replies::{Ask, Finished, Grant, Next};
 use standing::entries::Entry;
 use standing::records::{Session, State};
 use standing::searches::{Found, Waiter};
@@ -123,7 +123,7 @@ pub fn ask_step(session: Session, entries: usize, e: Entry) -> Asked
     if is_free(state) && is_met(session, operation) {
         let after = granted(session, e, waiting);
         return Asked {
-            reply: AskReply::Granted,
+            reply: Ask::Granted,
             session: after,
             place: entries,
             entry: e,
@@ -131,7 +131,7 @@ pub fn ask_step(session: Session, entries: usize, e: Entry) -> Asked
     }
     let after = counted(session, one_more(waiting));
     Asked {
-        reply: AskReply::Delayed(waiting),
+        reply: Ask::Delayed(waiting),
         session: after,
         place: waiting,
         entry: e,
@@ -151,10 +151,10 @@ fn hand_to(session: Session, w: Waiter) -> Handed
         terminal: terminal,
         operation: operation,
     });
-    let reply = FinishReply::Finished(Finished {
+    let reply = Finished {
         examined: one_more(w.place),
         next: next,
-    });
+    };
     Handed {
         reply: reply,
         session: after,
@@ -171,10 +171,10 @@ pub fn finish_step(session: Session, first: Found) -> Handed
     match first {
         Found::At(w) => hand_to(freed, w),
         Found::Nobody => {
-            let reply = FinishReply::Finished(Finished {
+            let reply = Finished {
                 examined: freed.waiting,
                 next: Next::Nobody,
-            });
+            };
             Handed {
                 reply: reply,
                 session: freed,
@@ -192,7 +192,6 @@ pub fn withdraw_step(session: Session, place: usize) -> Withdrawn
     let waiting = session.waiting;
     let after = counted(session, one_less(waiting));
     Withdrawn {
-        reply: WithdrawReply::Withdrawn(place),
         session: after,
         used: waiting,
         place: place,

@@ -18,15 +18,11 @@ use Rattle.standing.specs.declared.searches.Found.TheVariants.{Nobody, At}
 use Rattle.standing.specs.Lists.{in_use}
 use Rattle.standing.specs.Soundness.{Sound, meets_set}
 use Rattle.standing.proofs.Seeking.{Finds, seek_finds, found_in_use}
-use Rattle.steps.specs.declared.replies.AskReply.{AskReply}
-use Rattle.steps.specs.declared.replies.AskReply.TheVariants.{Granted, Delayed, Refused as AskRefused}
+use Rattle.std.specs.Prelude.{Ok, Err}
+use Rattle.steps.specs.declared.replies.Ask.TheVariants.{Granted, Delayed}
 use Rattle.steps.specs.declared.replies.Next.{Next}
 use Rattle.steps.specs.declared.replies.Next.TheVariants.{Granted as Grants, Nobody as NobodyNext}
-use Rattle.steps.specs.declared.replies.FinishReply.{FinishReply}
-use Rattle.steps.specs.declared.replies.FinishReply.TheVariants.{Finished, Refused as FinishRefused}
-use Rattle.steps.specs.declared.replies.WithdrawReply.{WithdrawReply}
-use Rattle.steps.specs.declared.replies.WithdrawReply.TheVariants.{Withdrawn, Refused as WithdrawRefused}
-use Rattle.steps.specs.Answers.{Answer, ask_answer, next_answer, finish_answer, withdraw_answer}
+use Rattle.steps.specs.Answers.{AskReply, FinishReply, WithdrawReply, number_of, Answer, ask_answer, next_answer, finish_answer, withdraw_answer}
 use Rattle.steps.specs.Answers.Answer.{opened, granted, delayed, finished, handed, withdrawn, refused}
 use Rattle.steps.specs.Calling.{Serves, entry_for}
 use Rattle.steps.specs.Calling.Serves.{refuses, does}
@@ -116,9 +112,9 @@ word_and_number w n h =
 
 ask_long : (r : AskReply) → Small (ask_answer r) → length (ask_line r) ≤ 88
 unfolding line_of ask_line
-ask_long Granted h = omega arith
-ask_long (Delayed n) h = let all = word_and_number delayed_word n h in omega (arith, all)
-ask_long (AskRefused m) h = let all = refused_long m h in omega (arith, all)
+ask_long (Ok Granted) h = omega arith
+ask_long (Ok (Delayed n)) h = let all = word_and_number delayed_word n h in omega (arith, all)
+ask_long (Err r) h = let all = refused_long (number_of r) h in omega (arith, all)
 
 finished_long : (t : Table) → TableSound t → (n : ℕ) (x : Next) → Small (next_answer n x) → length (finished_line t n x) ≤ 88
 unfolding finished_line
@@ -132,13 +128,13 @@ finished_long t sound n (Grants g) (h, k) =
 
 finish_long : (t : Table) → TableSound t → (r : FinishReply) → Small (finish_answer r) → length (finish_line t r) ≤ 88
 unfolding finish_line
-finish_long t sound (Finished f) h = finished_long t sound f.examined f.next h
-finish_long t sound (FinishRefused m) h = let all = refused_long m h in omega (arith, all)
+finish_long t sound (Ok f) h = finished_long t sound f.examined f.next h
+finish_long t sound (Err r) h = let all = refused_long (number_of r) h in omega (arith, all)
 
 withdraw_long : (r : WithdrawReply) → Small (withdraw_answer r) → length (withdraw_line r) ≤ 88
 unfolding withdraw_line
-withdraw_long (Withdrawn p) h = let all = word_and_number withdrawn_word p h in omega (arith, all)
-withdraw_long (WithdrawRefused m) h = let all = refused_long m h in omega (arith, all)
+withdraw_long (Ok p) h = let all = word_and_number withdrawn_word p h in omega (arith, all)
+withdraw_long (Err r) h = let all = refused_long (number_of r) h in omega (arith, all)
 
 -- the reply line of any call on a sound record and list
 pub reply_long : (s s' : Session) (l l' : List Entry) → s.waiting ≤ length l → Sound s l → (c : Call) (r : ReplyTo c)

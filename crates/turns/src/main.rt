@@ -14,7 +14,9 @@ use standing::numbers::Terminal;
 use standing::records::{Session, State};
 use std::io;
 use std::io::Write;
-use steps::replies::{AskReply, FinishReply, Finished, Next, OpenReply, WithdrawReply};
+use steps::replies::{
+    Ask, AskReply, CallRefusal, FinishReply, Finished, Next, OpenReply, WithdrawReply,
+};
 use table::cells::{Table, table_of_zeros};
 use table::numbers::Operation;
 
@@ -105,13 +107,13 @@ fn show_open<W: Write>(out: &mut W, reply: OpenReply, shows: bool) -> io::Result
         return Ok(());
     }
     match reply {
-        OpenReply::Opened => print(out, b"opened\n"),
-        OpenReply::Refused(n) => show_refused(out, n),
+        Ok(()) => print(out, b"opened\n"),
+        Err(refusal) => show_refused(out, refusal),
     }
 }
 
-fn show_refused<W: Write>(out: &mut W, n: u8) -> io::Result<()> {
-    print_with(out, b"refused ", n as u64)?;
+fn show_refused<W: Write>(out: &mut W, refusal: CallRefusal) -> io::Result<()> {
+    print_with(out, b"refused ", refusal.number() as u64)?;
     print(out, b"\n")
 }
 
@@ -120,12 +122,12 @@ fn show_ask<W: Write>(out: &mut W, reply: AskReply, shows: bool) -> io::Result<(
         return Ok(());
     }
     match reply {
-        AskReply::Granted => print(out, b"granted\n"),
-        AskReply::Delayed(n) => {
+        Ok(Ask::Granted) => print(out, b"granted\n"),
+        Ok(Ask::Delayed(n)) => {
             print_with(out, b"delayed ", n as u64)?;
             print(out, b"\n")
         }
-        AskReply::Refused(n) => show_refused(out, n),
+        Err(refusal) => show_refused(out, refusal),
     }
 }
 
@@ -147,8 +149,8 @@ fn show_finish<W: Write>(out: &mut W, reply: FinishReply, shows: bool) -> io::Re
         return Ok(());
     }
     match reply {
-        FinishReply::Finished(f) => show_finished(out, f),
-        FinishReply::Refused(n) => show_refused(out, n),
+        Ok(f) => show_finished(out, f),
+        Err(refusal) => show_refused(out, refusal),
     }
 }
 
@@ -157,11 +159,11 @@ fn show_withdraw<W: Write>(out: &mut W, reply: WithdrawReply, shows: bool) -> io
         return Ok(());
     }
     match reply {
-        WithdrawReply::Withdrawn(p) => {
+        Ok(p) => {
             print_with(out, b"withdrawn ", p as u64)?;
             print(out, b"\n")
         }
-        WithdrawReply::Refused(n) => show_refused(out, n),
+        Err(refusal) => show_refused(out, refusal),
     }
 }
 

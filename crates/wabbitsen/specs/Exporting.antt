@@ -8,11 +8,7 @@ use Rattle.standing.specs.declared.entries.Entry.{Entry}
 use Rattle.standing.specs.declared.records.Session.{Session}
 use Rattle.standing.specs.declared.records.State.{State}
 use Rattle.standing.specs.declared.records.State.TheVariants.{Free, Running}
-use Rattle.steps.specs.declared.replies.OpenReply.{OpenReply}
-use Rattle.steps.specs.declared.replies.AskReply.{AskReply}
-use Rattle.steps.specs.declared.replies.FinishReply.{FinishReply}
-use Rattle.steps.specs.declared.replies.WithdrawReply.{WithdrawReply}
-use Rattle.steps.specs.Answers.{Answer, open_answer, ask_answer, finish_answer, withdraw_answer}
+use Rattle.steps.specs.Answers.{OpenReply, AskReply, FinishReply, WithdrawReply, Answer, open_answer, ask_answer, finish_answer, withdraw_answer}
 use Rattle.steps.specs.Answers.Answer.{opened, granted, delayed, finished, handed, withdrawn, refused}
 use Rattle.steps.specs.Calling.{Opens, Asks, Finishes, Withdraws}
 use Rattle.compiler.specs.declared.replies.Reply.{Reply as CompileReply}
