@@ -19,7 +19,7 @@ use Rattle.standing.specs.declared.numbers.Terminal.{Terminal}
 use Rattle.standing.specs.declared.entries.Entry.{Entry}
 use Rattle.standing.specs.declared.records.Session.{Session}
 use Rattle.standing.specs.declared.searches.Search.{Search}
-use Rattle.std.specs.Prelude.{Result, Ok, Err}
+use Rattle.std.specs.Prelude.{Result, Ok, Err, is_none, is_some}
 use Rattle.steps.specs.declared.replies.CallRefusal.{CallRefusal}
 use Rattle.steps.specs.declared.replies.CallRefusal.TheVariants.{NoOperation, Running, Waiting}
 use Rattle.steps.specs.declared.replies.Ask.TheVariants.{Granted, Delayed}
@@ -29,13 +29,13 @@ use Rattle.steps.specs.Answers.Answer.{granted, delayed}
 use Rattle.standing.specs.Lists.{in_use}
 use Rattle.standing.specs.Searching.{looking, looked}
 use Rattle.standing.specs.Soundness.{RecordSound, meets_set}
-use Rattle.steps.specs.Steps.{is_free, granting, counting, ask_step}
+use Rattle.steps.specs.Steps.{granting, counting, ask_step}
 use Rattle.steps.specs.Refusals.{Row, First, Runs, Waits}
 use Rattle.steps.specs.Refusals.Row.{no_such_operation, ask_by_the_running, ask_by_a_waiting}
 use Rattle.steps.specs.Calling.{Serves, entry_for}
 use Rattle.steps.specs.Calling.Serves.{refuses, does}
 use Rattle.steps.specs.Promises.{AskCoreIsStep}
-use Rattle.steps.specs.Values.{outcome_of, ask_outcome, one_more, runs_in, is_found, ask_core, ask_known, ask_named, ask_value, AskedBy}
+use Rattle.steps.specs.Values.{outcome_of, ask_outcome, one_more, runs_in, ask_core, ask_known, ask_named, ask_value, AskedBy}
 use Rattle.steps.proofs.Pigeonhole.{room_for_one}
 use Rattle.steps.proofs.RowNumbers.{rows_left, ask_rows_left}
 use Rattle.standing.proofs.SoundLists.{length_in_use}
@@ -67,7 +67,7 @@ module _ (s : Session) (l : List Entry) (e : Entry) (count : length (in_use s l)
 
   ask_core_told : ask_outcome l (ask_core s (length l) e) ≡ ask_step s l e
   unfolding ask_core ask_step
-  ask_core_told = by_test (is_free s.state && meets_set s e.operation.0)
+  ask_core_told = by_test (is_none s.running && meets_set s e.operation.0)
 
 pub ask_core_is_step : AskCoreIsStep
 ask_core_is_step s l e long d below absent =
@@ -103,7 +103,7 @@ module _ (s : Session) (l : List Entry) (t : Terminal) (n : Name) (sound : Bool)
     left row = ask_rows_left s l t.0 n row (last row)
 
     -- 13, or the step
-    past_running : known ≡ true → ¬ Runs s t.0 → (b : Bool) → is_found f.own ≡ b
+    past_running : known ≡ true → ¬ Runs s t.0 → (b : Bool) → is_some f.own ≡ b
         → Good (cond b (Err Waiting) (Ok (ask_core s (length l) e)))
     past_running there idle true waits =
         refused_by Waiting
@@ -118,16 +118,16 @@ module _ (s : Session) (l : List Entry) (t : Terminal) (n : Name) (sound : Bool)
         (ask_core_is_step s l e p.long p.is_sound p.below nobody)
 
     -- 12, or on
-    past_name : known ≡ true → (b : Bool) → runs_in s.state t ≡ b
-        → Good (cond b (Err Running) (cond (is_found f.own) (Err Waiting) (Ok (ask_core s (length l) e))))
+    past_name : known ≡ true → (b : Bool) → runs_in s.running t ≡ b
+        → Good (cond b (Err Running) (cond (is_some f.own) (Err Waiting) (Ok (ask_core s (length l) e))))
     past_name there true runs =
         refused_by Running
         (record {
-          applies = ask_by_the_running t.0 n refl ((runs_says s.state t).0 runs);
+          applies = ask_by_the_running t.0 n refl ((runs_says s.running t).0 runs);
           none_before = λ k before row. absurd (omega (arith, before, (left row).0 there));
         })
     past_name there false idle =
-        past_running there (λ r. false≢true (sym idle ∙ (runs_says s.state t).1 r)) (is_found f.own) refl
+        past_running there (λ r. false≢true (sym idle ∙ (runs_says s.running t).1 r)) (is_some f.own) refl
 
     -- 11, or on
     named : (b : Bool) → known ≡ b
@@ -139,7 +139,7 @@ module _ (s : Session) (l : List Entry) (t : Terminal) (n : Name) (sound : Bool)
           applies = no_such_operation t.0 n refl absent;
           none_before = λ k before row. absurd (omega (arith, before, last row));
         })
-    named true there = past_name there (runs_in s.state t) refl
+    named true there = past_name there (runs_in s.running t) refl
 
   pub ask_served : Good (ask_value sound s (length l) f t n)
   unfolding ask_value found_in

@@ -7,12 +7,12 @@ use Prim.Native.Nat.{ℕ}
 use Rattle.meaning.proofs.SetLaws.{both_decide}
 use Rattle.text.proofs.Determined.{both_equal}
 use Rattle.table.specs.declared.cells.Table.{Table}
+use Rattle.standing.specs.declared.searches.Waiter.{Waiter}
 use Rattle.standing.specs.declared.numbers.Terminal.{Terminal}
 use Rattle.standing.specs.declared.entries.Entry.{Entry}
 use Rattle.standing.specs.declared.records.Session.{Session}
 use Rattle.standing.specs.declared.searches.Search.{Search}
-use Rattle.standing.specs.declared.searches.Found.{Found}
-use Rattle.std.specs.Prelude.{Result}
+use Rattle.std.specs.Prelude.{Result, Option}
 use Rattle.steps.specs.declared.replies.CallRefusal.{CallRefusal}
 use Rattle.steps.specs.declared.outcomes.Asked.{Asked}
 use Rattle.steps.specs.declared.outcomes.Handed.{Handed}
@@ -30,7 +30,7 @@ open_step_determined t r r' = both_equal
 pub ask_step_determined : (s : Session) (n : ℕ) (e : Entry) (r r' : Asked) → r ≡ ask_core s n e → r' ≡ ask_core s n e → r ≡ r'
 ask_step_determined s n e r r' = both_equal
 
-pub finish_step_determined : (s : Session) (f : Found) (r r' : Handed) → r ≡ finish_core s f → r' ≡ finish_core s f → r ≡ r'
+pub finish_step_determined : (s : Session) (f : Option Waiter) (r r' : Handed) → r ≡ finish_core s f → r' ≡ finish_core s f → r ≡ r'
 finish_step_determined s f r r' = both_equal
 
 pub withdraw_step_determined : (s : Session) (p : ℕ) (r r' : Withdrawn) → r ≡ withdraw_core s p → r' ≡ withdraw_core s p → r ≡ r'

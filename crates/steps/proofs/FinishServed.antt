@@ -10,13 +10,12 @@ use lib.ListN.{length, get_or, length-take}
 use lib.Seq.{get_or-take}
 use Rattle.meaning.specs.Sets.{mem, union_of}
 use Rattle.meaning.specs.Calls.Call.{finish}
+use Rattle.standing.specs.declared.searches.Waiter.{Waiter}
 use Rattle.standing.specs.declared.numbers.Terminal.{Terminal}
 use Rattle.standing.specs.declared.entries.Entry.{Entry}
 use Rattle.standing.specs.declared.records.Session.{Session}
 use Rattle.standing.specs.declared.searches.Search.{Search}
-use Rattle.standing.specs.declared.searches.Found.{Found}
-use Rattle.standing.specs.declared.searches.Found.TheVariants.{Nobody, At}
-use Rattle.std.specs.Prelude.{Result, Ok, Err}
+use Rattle.std.specs.Prelude.{Result, Ok, Err, Option, Some, None}
 use Rattle.steps.specs.declared.replies.CallRefusal.{CallRefusal}
 use Rattle.steps.specs.declared.replies.CallRefusal.TheVariants.{NotRunning}
 use Rattle.steps.specs.declared.outcomes.Handed.{Handed}
@@ -49,11 +48,11 @@ seek_alike test test' (e ∷ es) same =
     rw (same 0 (omega arith), seek_alike test test' es (λ i l. same (suc i) (omega (arith, l))))
 
 -- the line is handed on as the step says, to an entry at a place below 64
-handed_on : (s : Session) (l : List Entry) (test : Entry → Bool) (f : Found) → Finds test (in_use s l) f → length (in_use s l) ≤ 64
+handed_on : (s : Session) (l : List Entry) (test : Entry → Bool) (f : Option Waiter) → Finds test (in_use s l) f → length (in_use s l) ≤ 64
     → finish_outcome l (hand_core s f) ≡ hand_on s l f
 unfolding taken_out
-handed_on s l test Nobody finds few = refl
-handed_on s l test (At w) finds few = rw (one_more_fits w.place (omega (arith, finds.there, few)))
+handed_on s l test None finds few = refl
+handed_on s l test (Some w) finds few = rw (one_more_fits w.place (omega (arith, finds.there, few)))
 
 -- the core step is the step
 pub finish_core_is_step : FinishCoreIsStep
@@ -94,11 +93,11 @@ module _ (s : Session) (l : List Entry) (t : Terminal) where
     refused_by r first = refuses (number_of r) first refl
 
     -- past the tests of every call: 14, or the step
-    past : (p : Passed s l t w) → (b : Bool) → runs_in s.state t ≡ b → Good (cond b (Ok (finish_core s f.first)) (Err NotRunning))
+    past : (p : Passed s l t w) → (b : Bool) → runs_in s.running t ≡ b → Good (cond b (Ok (finish_core s f.first)) (Err NotRunning))
     past p false idle =
         refused_by NotRunning
         (record {
-          applies = finish_by_another t.0 refl (λ r. false≢true (sym idle ∙ (runs_says s.state t).1 r));
+          applies = finish_by_another t.0 refl (λ r. false≢true (sym idle ∙ (runs_says s.running t).1 r));
           none_before = λ k before row.
               absurd
               (omega (arith, before, (finish_rows_left s l t.0 row ((rows_left s l row).3 p.long p.is_sound p.below)).0));
@@ -106,8 +105,8 @@ module _ (s : Session) (l : List Entry) (t : Terminal) where
     past p true runs =
         does
         (λ m row.
-        (finish_rows_left s l t.0 row ((rows_left s l row).3 p.long p.is_sound p.below)).1 ((runs_says s.state t).0 runs))
-        (ap (λ (first : Found). finish_outcome l (finish_core s first)) (first_picked p.long p.is_sound)
+        (finish_rows_left s l t.0 row ((rows_left s l row).3 p.long p.is_sound p.below)).1 ((runs_says s.running t).0 runs))
+        (ap (λ (first : Option Waiter). finish_outcome l (finish_core s first)) (first_picked p.long p.is_sound)
         ∙ finish_core_is_step s l p.long p.is_sound)
 
     pub finish_served : Good (finish_value sound s (length l) f t)
@@ -116,7 +115,7 @@ module _ (s : Session) (l : List Entry) (t : Terminal) where
       where
         by_verdict : Common s l t w sound says (finish t.0) → Good (finish_value sound s (length l) f t)
         by_verdict (stops r e first) = rw e (refused_by r first)
-        by_verdict (goes e p) = rw e (past p (runs_in s.state t) refl)
+        by_verdict (goes e p) = rw e (past p (runs_in s.running t) refl)
 
 pub finish_finishes : (s : Session) (l : List Entry) (t : Terminal) (f : Search) (v : Result Handed CallRefusal)
     → f ≡ looked 0 (looking_next s t) (in_use s l) → FinishedBy s (length l) f t v

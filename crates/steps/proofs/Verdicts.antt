@@ -12,24 +12,21 @@ use lib.ListN.{length, get_or}
 use lib.Seq.{get_or-take}
 use Rattle.meaning.specs.Calls.{Call}
 use Rattle.meaning.proofs.SetLaws.{below_or_not}
+use Rattle.standing.specs.declared.searches.Waiter.{Waiter}
 use Rattle.standing.specs.declared.numbers.Terminal.{Terminal}
 use Rattle.standing.specs.declared.entries.Entry.{Entry}
 use Rattle.standing.specs.declared.records.Session.{Session}
-use Rattle.standing.specs.declared.records.State.{State}
-use Rattle.standing.specs.declared.records.State.TheVariants.{Free, Running}
 use Rattle.standing.specs.declared.searches.Search.{Search}
-use Rattle.standing.specs.declared.searches.Found.{Found}
-use Rattle.standing.specs.declared.searches.Found.TheVariants.{Nobody, At}
 use Rattle.standing.specs.Lists.{blank_entry, in_use, seek}
 use Rattle.standing.specs.Searching.{searching, looked}
 use Rattle.standing.specs.Soundness.{RecordSound, Sound}
-use Rattle.std.specs.Prelude.{Result, Ok, Err}
+use Rattle.std.specs.Prelude.{Result, Ok, Err, Option, Some, None, is_some}
 use Rattle.steps.specs.declared.replies.CallRefusal.{CallRefusal}
 use Rattle.steps.specs.declared.replies.CallRefusal.TheVariants.{ShortList, Unsound, NoTerminal}
 use Rattle.steps.specs.Answers.{number_of}
 use Rattle.steps.specs.Refusals.{Row, First, terminal_of, Waits}
 use Rattle.steps.specs.Refusals.Row.{short_list, unsound, terminal_above_63}
-use Rattle.steps.specs.Values.{first_refusal, runs_in, is_found}
+use Rattle.steps.specs.Values.{first_refusal, runs_in}
 use Rattle.standing.proofs.Looking.{looked_own}
 use Rattle.steps.proofs.RowNumbers.{rows_left}
 use Rattle.standing.proofs.Seeking.{Finds, seek_finds}
@@ -37,22 +34,22 @@ use Rattle.standing.proofs.SoundLists.{length_in_use, looking_decides}
 use Rattle.standing.proofs.States.{free_not_running, same_runner}
 
 -- the running terminal
-pub runs_says : (st : State) (t : Terminal) → (runs_in st t ≡ true) ↔ (st ≡ Running t)
-runs_says Free t = (λ h. absurd (false≢true h), λ e. free_not_running t e)
-runs_says (Running u) t = (
-  λ h. ap (λ (n : ℕ). Running (record { 0 = n })) (eqb-true u.0 t.0 h),
+pub runs_says : (st : Option Terminal) (t : Terminal) → (runs_in st t ≡ true) ↔ (st ≡ Some t)
+runs_says None t = (λ h. absurd (false≢true h), λ e. free_not_running t e)
+runs_says (Some u) t = (
+  λ h. ap (λ (n : ℕ). Some (record { 0 = n })) (eqb-true u.0 t.0 h),
   λ e. eq-eqb u.0 t.0 (same_runner u t e),
 )
 
 -- what is found says whether some entry passes the test
-found_says : (test : Entry → Bool) (es : List Entry) (f : Found) → Finds test es f
-    → (is_found f ≡ true) ↔ ((i : ℕ) × (i < length es) × (test (get_or es i blank_entry) ≡ true))
-found_says test es Nobody finds = (λ h. absurd (false≢true h), λ h. absurd (false≢true (sym (finds h.0 h.1) ∙ h.2)))
-found_says test es (At w) finds = (λ h. (w.place, finds.there, rw finds.entry_there finds.passes), λ h. refl)
+found_says : (test : Entry → Bool) (es : List Entry) (f : Option Waiter) → Finds test es f
+    → (is_some f ≡ true) ↔ ((i : ℕ) × (i < length es) × (test (get_or es i blank_entry) ≡ true))
+found_says test es None finds = (λ h. absurd (false≢true h), λ h. absurd (false≢true (sym (finds h.0 h.1) ∙ h.2)))
+found_says test es (Some w) finds = (λ h. (w.place, finds.there, rw finds.entry_there finds.passes), λ h. refl)
 
 -- a terminal waits if its entry is found among those in use
 pub entry_waits : (s : Session) (l : List Entry) (u : ℕ) → 64 ≤ length l → RecordSound s
-    → (is_found (seek (λ e. eqb e.terminal.0 u) (in_use s l)) ≡ true) ↔ Waits s l u
+    → (is_some (seek (λ e. eqb e.terminal.0 u) (in_use s l)) ≡ true) ↔ Waits s l u
 entry_waits s l u long r =
     let test : Entry → Bool = λ e. eqb e.terminal.0 u in
     let says = found_says test (in_use s l) (seek test (in_use s l)) (seek_finds test (in_use s l)) in
@@ -81,7 +78,7 @@ module _ (s : Session) (l : List Entry) (t : Terminal) (w : ℕ) where
   own_found = looked_own (searching s t w) (in_use s l) refl
 
   -- the waiting terminals
-  pub waits_says : 64 ≤ length l → RecordSound s → (is_found found.own ≡ true) ↔ Waits s l t.0
+  pub waits_says : 64 ≤ length l → RecordSound s → (is_some found.own ≡ true) ↔ Waits s l t.0
   waits_says long r = rw own_found (entry_waits s l t.0 long r)
 
   -- what holds of a call that is past 8, 9 and 10

@@ -7,13 +7,12 @@ use Prim.Native.Nat.{ℕ}
 use native.Mathlib.Omega.{arith}
 use lib.ListN.{length}
 use Rattle.meaning.specs.Calls.Call.{withdraw}
+use Rattle.standing.specs.declared.searches.Waiter.{Waiter}
 use Rattle.standing.specs.declared.numbers.Terminal.{Terminal}
 use Rattle.standing.specs.declared.entries.Entry.{Entry}
 use Rattle.standing.specs.declared.records.Session.{Session}
 use Rattle.standing.specs.declared.searches.Search.{Search}
-use Rattle.standing.specs.declared.searches.Found.{Found}
-use Rattle.standing.specs.declared.searches.Found.TheVariants.{Nobody, At}
-use Rattle.std.specs.Prelude.{Result, Err}
+use Rattle.std.specs.Prelude.{Result, Err, Option, Some, None, is_some}
 use Rattle.steps.specs.declared.replies.CallRefusal.{CallRefusal}
 use Rattle.steps.specs.declared.replies.CallRefusal.TheVariants.{NotWaiting}
 use Rattle.steps.specs.declared.outcomes.Withdrawn.{Withdrawn}
@@ -27,7 +26,7 @@ use Rattle.steps.specs.Refusals.Row.{withdraw_by_another}
 use Rattle.steps.specs.Calling.{Serves}
 use Rattle.steps.specs.Calling.Serves.{refuses, does}
 use Rattle.steps.specs.Promises.{WithdrawCoreIsStep, LookingFindsOwn}
-use Rattle.steps.specs.Values.{outcome_of, withdraw_outcome, is_found, withdraw_core, withdraw_found, withdraw_value, WithdrawnBy}
+use Rattle.steps.specs.Values.{outcome_of, withdraw_outcome, withdraw_core, withdraw_found, withdraw_value, WithdrawnBy}
 use Rattle.steps.proofs.RowNumbers.{rows_left, withdraw_rows_left}
 use Rattle.steps.proofs.Verdicts.{found, own_found, waits_says, Passed, Common, common}
 use Rattle.steps.proofs.Verdicts.Common.{stops, goes}
@@ -57,21 +56,21 @@ module _ (s : Session) (l : List Entry) (t : Terminal) where
     refused_by r first = refuses (number_of r) first refl
 
     -- past the tests of every call: 15, or the step
-    past : (p : Passed s l t 0) → (own : Found) → f.own ≡ own → Good (withdraw_found s own)
-    past p Nobody nobody =
+    past : (p : Passed s l t 0) → (own : Option Waiter) → f.own ≡ own → Good (withdraw_found s own)
+    past p None nobody =
         refused_by NotWaiting
         (record {
           applies = withdraw_by_another t.0 refl
-              (λ w. false≢true (ap is_found (sym nobody) ∙ (waits_says s l t 0 p.long p.is_sound.record_sound).1 w));
+              (λ w. false≢true (ap is_some (sym nobody) ∙ (waits_says s l t 0 p.long p.is_sound.record_sound).1 w));
           none_before = λ k before row.
               absurd
               (omega (arith, before, (withdraw_rows_left s l t.0 row ((rows_left s l row).3 p.long p.is_sound p.below)).0));
         })
-    past p (At w) there =
+    past p (Some w) there =
         does
         (λ m row.
         (withdraw_rows_left s l t.0 row ((rows_left s l row).3 p.long p.is_sound p.below)).1
-        ((waits_says s l t 0 p.long p.is_sound.record_sound).0 (ap is_found there)))
+        ((waits_says s l t 0 p.long p.is_sound.record_sound).0 (ap is_some there)))
         (withdraw_core_is_step s l t.0 w (sym own_entry ∙ there))
 
     pub withdraw_served : Good (withdraw_value sound s (length l) f t)

@@ -1,6 +1,6 @@
 -- The calls by value: what the inner functions say. The contracts of the calls (Calling.antt) do not speak of it; the promises of the
 -- core steps (Promises.antt) do, of `ask_core`, `finish_core`, `withdraw_core` and what they leave of a list.
-use Rattle.std.specs.Prelude.{◌≡◌, Bool, true, false, cond, ◌&&◌, List, ◌↔◌, ℕ, suc, ◌-◌, eqb, ltb, set, Result, Ok, Err}
+use Rattle.std.specs.Prelude.{◌≡◌, Bool, true, false, cond, ◌&&◌, List, ◌↔◌, ℕ, suc, ◌-◌, eqb, ltb, set, Result, Ok, Err, Option, Some, None, is_none, is_some}
 use Rattle.std.specs.Result.{result_and}
 use Rattle.meaning.specs.Names.{key}
 use Rattle.table.specs.Cells.{names_of}
@@ -9,17 +9,14 @@ use Rattle.table.specs.Soundness.{Sound as TableSound}
 use Rattle.table.specs.declared.cells.Table.{Table}
 use Rattle.table.specs.declared.names.Found.{Found as Named}
 use Rattle.table.specs.declared.names.Found.TheVariants.{At as NamedAt, Nowhere}
+use Rattle.standing.specs.declared.searches.Waiter.{Waiter}
 use Rattle.standing.specs.declared.numbers.Terminal.{Terminal}
 use Rattle.standing.specs.declared.entries.Entry.{Entry}
 use Rattle.standing.specs.declared.records.Session.{Session}
-use Rattle.standing.specs.declared.records.State.{State}
-use Rattle.standing.specs.declared.records.State.TheVariants.{Free, Running}
 use Rattle.standing.specs.declared.searches.Search.{Search}
-use Rattle.standing.specs.declared.searches.Found.{Found}
-use Rattle.standing.specs.declared.searches.Found.TheVariants.{Nobody, At}
 use Rattle.steps.specs.declared.replies.CallRefusal.{CallRefusal}
 use Rattle.steps.specs.declared.replies.CallRefusal.TheVariants.{ShortList, Unsound, NoTerminal, NoOperation}
-use Rattle.steps.specs.declared.replies.CallRefusal.TheVariants.{Running as Runs, Waiting, NotRunning, NotWaiting}
+use Rattle.steps.specs.declared.replies.CallRefusal.TheVariants.{Running, Waiting, NotRunning, NotWaiting}
 use Rattle.steps.specs.declared.replies.Ask.TheVariants.{Granted, Delayed}
 use Rattle.steps.specs.declared.replies.Next.TheVariants.{Granted as Grants, Nobody as NobodyNext}
 use Rattle.steps.specs.declared.outcomes.Asked.{Asked}
@@ -28,24 +25,16 @@ use Rattle.steps.specs.declared.outcomes.Withdrawn.{Withdrawn}
 use Rattle.steps.specs.Answers.{number_of, open_answer, ask_answer, finish_answer, withdraw_answer}
 use Rattle.standing.specs.Lists.{blanked, taken_out}
 use Rattle.standing.specs.Soundness.{RecordSound, meets_set}
-use Rattle.steps.specs.Steps.{Outcome, is_free, opening, granting, counting, freed}
+use Rattle.steps.specs.Steps.{Outcome, opening, granting, counting, freed}
 use Rattle.steps.specs.Calling.{refusing}
-
--- a record over the same table
-abbrev pub over_table : Session → ℕ → State → ℕ → Session
-over_table s set state n = record { table = s.table; set = set; state = state; waiting = n }
 
 -- one more, of at most 64
 unfoldable pub one_more : ℕ → ℕ
 one_more n = cond (ltb n 64) (suc n) n
 
-abbrev pub runs_in : State → Terminal → Bool
-runs_in Free t = false
-runs_in (Running u) t = eqb u.0 t.0
-
-abbrev pub is_found : Found → Bool
-is_found Nobody = false
-is_found (At w) = true
+abbrev pub runs_in : Option Terminal → Terminal → Bool
+runs_in None t = false
+runs_in (Some u) t = eqb u.0 t.0
 
 -- 8, 9 or 10, whichever comes first: for a list of n entries
 unfoldable pub first_refusal : Bool → ℕ → Search → Terminal → Result (Unit {0}) CallRefusal
@@ -58,12 +47,12 @@ open_value sound n t = cond (ltb n 64) (Err ShortList) (cond sound (Ok (opening 
 -- where nothing is put, the place is behind the list
 unfoldable pub ask_core : Session → ℕ → Entry → Asked
 ask_core s n e =
-    cond (is_free s.state && meets_set s e.operation.0)
+    cond (is_none s.running && meets_set s e.operation.0)
     (record { reply = Granted; session = granting s e s.waiting; place = n; entry = e })
     (record { reply = Delayed s.waiting; session = counting s (one_more s.waiting); place = s.waiting; entry = e })
 
 unfoldable pub ask_known : Session → ℕ → Search → Entry → Result Asked CallRefusal
-ask_known s n f e = cond (runs_in s.state e.terminal) (Err Runs) (cond (is_found f.own) (Err Waiting) (Ok (ask_core s n e)))
+ask_known s n f e = cond (runs_in s.running e.terminal) (Err Running) (cond (is_some f.own) (Err Waiting) (Ok (ask_core s n e)))
 
 abbrev pub ask_named : Session → ℕ → Search → Terminal → Named → Result Asked CallRefusal
 ask_named s n f t Nowhere = Err NoOperation
@@ -74,9 +63,9 @@ ask_value sound s n f t name =
     result_and (first_refusal sound n f t) (ask_named s n f t (found_in (names_of s.table) (key name)))
 
 -- s is free already, with the set that the finish leaves; where nobody is found, nothing is taken out: of no entry
-abbrev pub hand_core : Session → Found → Handed
-hand_core s Nobody = record { reply = record { examined = s.waiting; next = NobodyNext }; session = s; used = 0; place = 0 }
-hand_core s (At w) =
+abbrev pub hand_core : Session → Option Waiter → Handed
+hand_core s None = record { reply = record { examined = s.waiting; next = NobodyNext }; session = s; used = 0; place = 0 }
+hand_core s (Some w) =
     record {
       reply =
           record {
@@ -88,19 +77,19 @@ hand_core s (At w) =
       place = w.place;
     }
 
-unfoldable pub finish_core : Session → Found → Handed
+unfoldable pub finish_core : Session → Option Waiter → Handed
 finish_core s first = hand_core (freed s) first
 
 unfoldable pub finish_value : Bool → Session → ℕ → Search → Terminal → Result Handed CallRefusal
 finish_value sound s n f t =
-    result_and (first_refusal sound n f t) (cond (runs_in s.state t) (Ok (finish_core s f.first)) (Err NotRunning))
+    result_and (first_refusal sound n f t) (cond (runs_in s.running t) (Ok (finish_core s f.first)) (Err NotRunning))
 
 unfoldable pub withdraw_core : Session → ℕ → Withdrawn
 withdraw_core s p = record { session = counting s (s.waiting - 1); used = s.waiting; place = p }
 
-abbrev pub withdraw_found : Session → Found → Result Withdrawn CallRefusal
-withdraw_found s Nobody = Err NotWaiting
-withdraw_found s (At w) = Ok (withdraw_core s w.place)
+abbrev pub withdraw_found : Session → Option Waiter → Result Withdrawn CallRefusal
+withdraw_found s None = Err NotWaiting
+withdraw_found s (Some w) = Ok (withdraw_core s w.place)
 
 unfoldable pub withdraw_value : Bool → Session → ℕ → Search → Terminal → Result Withdrawn CallRefusal
 withdraw_value sound s n f t = result_and (first_refusal sound n f t) (withdraw_found s f.own)

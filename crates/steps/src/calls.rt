@@ -1,7 +1,7 @@
 // The calls, by value: each tests in number order, and then does its core step; where it is refused nothing changes. `entries` is the length
 // of the lent list, `found` what looking through the entries in use has found.
 ghost use Rattle.std.specs.Prelude.{◌≡◌};
-ghost use Rattle.steps.specs.Values.{runs_in, is_found, Decided, first_refusal, ask_known, OpenedBy, AskedBy, FinishedBy, WithdrawnBy};
+ghost use Rattle.steps.specs.Values.{runs_in, Decided, first_refusal, ask_known, OpenedBy, AskedBy, FinishedBy, WithdrawnBy};
 ghost use Rattle.standing.specs.Soundness.{RecordSound};
 
 use crate::outcomes::{Asked, Handed, Withdrawn};
@@ -9,8 +9,8 @@ use crate::replies::CallRefusal;
 use crate::steps::{ask_step, finish_step, open_step, withdraw_step};
 use standing::entries::Entry;
 use standing::numbers::Terminal;
-use standing::records::{Session, State};
-use standing::searches::{Found, Search};
+use standing::records::Session;
+use standing::searches::Search;
 use standing::soundness::record_is_sound;
 use table::cells::Table;
 use table::names::{Found as Named, find};
@@ -42,22 +42,10 @@ fn refusal(
     Ok(())
 }
 
-fn runs(state: State, terminal: Terminal) -> bool
-    ensures { result ≡ runs_in state terminal }
+fn runs(session: Session, terminal: Terminal) -> bool
+    ensures { result ≡ runs_in session.running terminal }
 {
-    match state {
-        State::Free => false,
-        State::Running(t) => t.0 == terminal.0,
-    }
-}
-
-fn is_found(f: Found) -> bool
-    ensures { result ≡ is_found f }
-{
-    match f {
-        Found::Nobody => false,
-        Found::At(_) => true,
-    }
+    session.running == Some(terminal)
 }
 
 // An opening over a table: 8, 9, then free, the start set, and nobody waits.
@@ -84,13 +72,10 @@ fn ask_known(
 ) -> Result<Asked, CallRefusal>
     ensures { result ≡ ask_known session entries found e }
 {
-    let state = session.state;
-    let terminal = e.terminal;
-    if runs(state, terminal) {
+    if runs(session, e.terminal) {
         return Err(CallRefusal::Running);
     }
-    let own = found.own;
-    if is_found(own) {
+    if found.own.is_some() {
         return Err(CallRefusal::Waiting);
     }
     Ok(ask_step(session, entries, e))
@@ -134,12 +119,10 @@ pub fn finished(
     ensures { FinishedBy session entries found terminal result }
 {
     refusal(session, entries, found, terminal)?;
-    let state = session.state;
-    if !runs(state, terminal) {
+    if !runs(session, terminal) {
         return Err(CallRefusal::NotRunning);
     }
-    let first = found.first;
-    Ok(finish_step(session, first))
+    Ok(finish_step(session, found.first))
 }
 
 // A withdrawal: 8, 9, 10, 15, then its step.
@@ -152,9 +135,8 @@ pub fn withdrawn(
     ensures { WithdrawnBy session entries found terminal result }
 {
     refusal(session, entries, found, terminal)?;
-    let own = found.own;
-    match own {
-        Found::Nobody => Err(CallRefusal::NotWaiting),
-        Found::At(w) => Ok(withdraw_step(session, w.place)),
+    match found.own {
+        None => Err(CallRefusal::NotWaiting),
+        Some(w) => Ok(withdraw_step(session, w.place)),
     }
 }

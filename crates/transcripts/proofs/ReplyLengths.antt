@@ -11,14 +11,13 @@ use Rattle.meaning.specs.Calls.Call.{ask, finish, withdraw}
 use Rattle.table.specs.Cells.{names_of}
 use Rattle.table.specs.Soundness.{Sound as TableSound}
 use Rattle.table.specs.declared.cells.Table.{Table}
+use Rattle.standing.specs.declared.searches.Waiter.{Waiter}
 use Rattle.standing.specs.declared.entries.Entry.{Entry}
 use Rattle.standing.specs.declared.records.Session.{Session}
-use Rattle.standing.specs.declared.searches.Found.{Found}
-use Rattle.standing.specs.declared.searches.Found.TheVariants.{Nobody, At}
 use Rattle.standing.specs.Lists.{in_use}
 use Rattle.standing.specs.Soundness.{Sound, meets_set}
 use Rattle.standing.proofs.Seeking.{Finds, seek_finds, found_in_use}
-use Rattle.std.specs.Prelude.{Ok, Err}
+use Rattle.std.specs.Prelude.{Ok, Err, Option, Some, None, is_none}
 use Rattle.steps.specs.declared.replies.Ask.TheVariants.{Granted, Delayed}
 use Rattle.steps.specs.declared.replies.Next.{Next}
 use Rattle.steps.specs.declared.replies.Next.TheVariants.{Granted as Grants, Nobody as NobodyNext}
@@ -29,7 +28,7 @@ use Rattle.steps.specs.Calling.Serves.{refuses, does}
 use Rattle.steps.specs.Refusals.{Row}
 use Rattle.steps.specs.Refusals.Row.{short_list, unsound, terminal_above_63, no_such_operation, ask_by_the_running}
 use Rattle.steps.specs.Refusals.Row.{ask_by_a_waiting, finish_by_another, withdraw_by_another}
-use Rattle.steps.specs.Steps.{Outcome, is_free, freed, ask_step, picked, hand_on, finish_step, entry_of, take_back, withdraw_step}
+use Rattle.steps.specs.Steps.{Outcome, freed, ask_step, picked, hand_on, finish_step, entry_of, take_back, withdraw_step}
 use Rattle.simulation.specs.Runs.{ReplyTo, Leaves}
 use Rattle.wording.specs.Writing.{decimal}
 use Rattle.wording.proofs.Sizes.{two_digits}
@@ -69,18 +68,18 @@ module _ (s : Session) (l : List Entry) (fits : s.waiting ≤ length l) (sound :
 
   ask_small : (e : Entry) → Small (ask_step s l e).answer
   unfolding ask_step
-  ask_small e = go (is_free s.state && meets_set s e.operation.0) refl
+  ask_small e = go (is_none s.running && meets_set s e.operation.0) refl
     where
-      go : (b : Bool) → (is_free s.state && meets_set s e.operation.0) ≡ b → Small (ask_step s l e).answer
+      go : (b : Bool) → (is_none s.running && meets_set s e.operation.0) ≡ b → Small (ask_step s l e).answer
       go true p = rw p tt
       go false p =
           let ahead = length-take s.waiting l in
           let most = sound.record_sound.count_most in
           rw p (omega (arith, ahead, most))
 
-  handed_small : (test : Entry → Bool) (f : Found) → Finds test (in_use s l) f → Small (hand_on (freed s) l f).answer
-  handed_small test Nobody finds = let most = few in omega (arith, most)
-  handed_small test (At w) finds =
+  handed_small : (test : Entry → Bool) (f : Option Waiter) → Finds test (in_use s l) f → Small (hand_on (freed s) l f).answer
+  handed_small test None finds = let most = few in omega (arith, most)
+  handed_small test (Some w) finds =
       let (there, is) = found_in_use s l fits test w finds in
       let below = sound.terminals_below w.place there in
       let most = few in
@@ -92,9 +91,9 @@ module _ (s : Session) (l : List Entry) (fits : s.waiting ≤ length l) (sound :
       handed_small (λ e. meets_set (freed s) e.operation.0) (picked (freed s) l)
       (seek_finds (λ e. meets_set (freed s) e.operation.0) (in_use s l))
 
-  back_small : (test : Entry → Bool) (f : Found) → Finds test (in_use s l) f → Small (take_back s l f).answer
-  back_small test Nobody finds = omega arith
-  back_small test (At w) finds =
+  back_small : (test : Entry → Bool) (f : Option Waiter) → Finds test (in_use s l) f → Small (take_back s l f).answer
+  back_small test None finds = omega arith
+  back_small test (Some w) finds =
       let (there, is) = found_in_use s l fits test w finds in
       let most = few in
       omega (arith, there, most)

@@ -13,7 +13,7 @@ use compiler::readers::compile;
 use compiler::replies::Reply;
 use lines::held::{Line, open_line};
 use standing::entries::blank_entry;
-use standing::records::{Session, State};
+use standing::records::Session;
 use table::cells::{Table, table_of_zeros};
 use wording::orders::{LF, bytes_before};
 
@@ -25,7 +25,7 @@ fn nothing() -> Line
     let session = Session {
         table: table,
         set: 0,
-        state: State::Free,
+        running: None,
         waiting: 0,
     };
     let list = [blank_entry(); 64];

@@ -11,7 +11,7 @@ use inputs::read_full;
 use lines::held::{Line, ask_line, finish_line, open_line, withdraw_line};
 use standing::entries::{Entry, blank_entry};
 use standing::numbers::Terminal;
-use standing::records::{Session, State};
+use standing::records::Session;
 use std::io;
 use std::io::Write;
 use steps::replies::{
@@ -198,10 +198,10 @@ fn show_list<W: Write>(out: &mut W, list: [Entry; 64]) -> io::Result<()> {
     Ok(())
 }
 
-fn show_state<W: Write>(out: &mut W, state: State) -> io::Result<()> {
-    match state {
-        State::Free => print(out, b" free"),
-        State::Running(t) => print_with(out, b" ", t.0 as u64),
+fn show_running<W: Write>(out: &mut W, running: Option<Terminal>) -> io::Result<()> {
+    match running {
+        None => print(out, b" free"),
+        Some(t) => print_with(out, b" ", t.0 as u64),
     }
 }
 
@@ -211,8 +211,7 @@ fn show_line<W: Write>(out: &mut W, line: Line, shows: bool) -> io::Result<()> {
     }
     let session = line.session;
     print_number(out, session.set)?;
-    let state = session.state;
-    show_state(out, state)?;
+    show_running(out, session.running)?;
     print_with(out, b" ", session.waiting as u64)?;
     let list = line.list;
     show_list(out, list)?;
@@ -339,14 +338,14 @@ fn list_damaged(list: [Entry; 64], kind: u64, at: usize, value: u64) -> [Entry; 
     l
 }
 
-fn state_damaged(state: State, kind: u64, value: u64) -> State {
+fn running_damaged(running: Option<Terminal>, kind: u64, value: u64) -> Option<Terminal> {
     if kind == 1 {
-        return State::Free;
+        return None;
     }
     if kind == 2 {
-        return State::Running(terminal_of(value));
+        return Some(terminal_of(value));
     }
-    state
+    running
 }
 
 // One cell gets a value, which need not be one that it may have.
@@ -354,8 +353,7 @@ fn damaged(line: Line, kind: u64, at: usize, value: u64) -> Line {
     let before = line.session;
     let table = before.table;
     let table = table_damaged(table, kind, at, value);
-    let state = before.state;
-    let state = state_damaged(state, kind, value);
+    let running = running_damaged(before.running, kind, value);
     let mut set = before.set;
     if kind == 0 {
         set = value;
@@ -367,7 +365,7 @@ fn damaged(line: Line, kind: u64, at: usize, value: u64) -> Line {
     let session = Session {
         table: table,
         set: set,
-        state: state,
+        running: running,
         waiting: waiting,
     };
     let list = line.list;
@@ -429,7 +427,7 @@ fn nothing() -> Line {
     let session = Session {
         table: table,
         set: 0,
-        state: State::Free,
+        running: None,
         waiting: 0,
     };
     let list = [blank_entry(); 64];

@@ -12,14 +12,14 @@ returns-in_err-refusal c =
     let p = err_from_is_err_and c.from_residual.result c.from_residual.ensures.1 in
     record { sound = f.sound; says = f.says; is = rw (p.1, sym f.is) (ap Err p.2) }
 
-pub returns-in-Nobody : goal.returns-in-Nobody
+pub returns-in-None : goal.returns-in-None
 unfolding withdraw_value
-returns-in-Nobody c =
+returns-in-None c =
     let f = c.in_ok-refusal.ensures in
-    record { sound = f.sound; says = f.says; is = rw (sym f.is, c.in-Nobody.is) }
+    record { sound = f.sound; says = f.says; is = rw (sym f.is, c.in-None.is) }
 
-pub returns-in-At : goal.returns-in-At
+pub returns-in-Some : goal.returns-in-Some
 unfolding withdraw_value
-returns-in-At c =
+returns-in-Some c =
     let f = c.in_ok-refusal.ensures in
-    record { sound = f.sound; says = f.says; is = rw (sym f.is, c.in-At.is, c.withdraw_step.ensures) }
+    record { sound = f.sound; says = f.says; is = rw (sym f.is, c.in-Some.is, c.withdraw_step.ensures) }
