@@ -11,7 +11,7 @@ use crate::replies::{put_path, put_refused, put_refused_path};
 use crate::talk::{behind, talk};
 use compiler::readers::compile;
 use compiler::replies::Reply;
-use lines::held::{Line, open_line};
+use lines::held::Line;
 use standing::entries::blank_entry;
 use standing::records::Session;
 use table::cells::{Table, table_of_zeros};
@@ -40,8 +40,10 @@ fn opened(table: Table) -> Line
     requires { Sound table }
     ensures { (result.session ≡ opening table) × (result.list ≡ replicate 64 blank_entry) }
 {
-    let out = open_line(nothing(), table);
-    out.line
+    let mut line = nothing();
+    // A sound table is not refused.
+    let _ = line.open(table);
+    line
 }
 
 // From an accepted path on.

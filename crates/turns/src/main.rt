@@ -8,7 +8,7 @@ ghost use Rattle.std.specs.Prelude.{◌≤◌, length};
 use compiler::readers::compile;
 use compiler::replies::Reply;
 use inputs::read_full;
-use lines::held::{Line, ask_line, finish_line, open_line, withdraw_line};
+use lines::held::Line;
 use standing::entries::{Entry, blank_entry};
 use standing::numbers::Terminal;
 use standing::records::Session;
@@ -205,7 +205,7 @@ fn show_running<W: Write>(out: &mut W, running: Option<Terminal>) -> io::Result<
     }
 }
 
-fn show_line<W: Write>(out: &mut W, line: Line, shows: bool) -> io::Result<()> {
+fn show_line<W: Write>(out: &mut W, line: &Line, shows: bool) -> io::Result<()> {
     if !shows {
         return Ok(());
     }
@@ -218,14 +218,17 @@ fn show_line<W: Write>(out: &mut W, line: Line, shows: bool) -> io::Result<()> {
     print(out, b"\n")
 }
 
-fn opened<W: Write>(out: &mut W, line: Line, table: Table, shows: bool) -> io::Result<Line> {
-    let r = open_line(line, table);
-    let reply = r.reply;
-    show_open(out, reply, shows)?;
-    Ok(r.line)
+fn opened<W: Write>(out: &mut W, line: &mut Line, table: Table, shows: bool) -> io::Result<()> {
+    let reply = line.open(table);
+    show_open(out, reply, shows)
 }
 
-fn compiled<W: Write>(out: &mut W, line: Line, text: &[u8], shows: bool) -> io::Result<Line> {
+fn compiled<W: Write>(
+    out: &mut W,
+    line: &mut Line,
+    text: &[u8],
+    shows: bool,
+) -> io::Result<()> {
     let r = compile(text);
     let reply = r.reply;
     match reply {
@@ -239,46 +242,40 @@ fn compiled<W: Write>(out: &mut W, line: Line, text: &[u8], shows: bool) -> io::
                 print_with(out, b" at ", why.place as u64)?;
                 print(out, b"\n")?;
             }
-            Ok(line)
+            Ok(())
         }
     }
 }
 
 fn asked<W: Write>(
     out: &mut W,
-    line: Line,
+    line: &mut Line,
     terminal: Terminal,
     name: &[u8],
     shows: bool,
-) -> io::Result<Line> {
-    let r = ask_line(line, terminal, name);
-    let reply = r.reply;
-    show_ask(out, reply, shows)?;
-    Ok(r.line)
+) -> io::Result<()> {
+    let reply = line.ask(terminal, name);
+    show_ask(out, reply, shows)
 }
 
 fn finished<W: Write>(
     out: &mut W,
-    line: Line,
+    line: &mut Line,
     terminal: Terminal,
     shows: bool,
-) -> io::Result<Line> {
-    let r = finish_line(line, terminal);
-    let reply = r.reply;
-    show_finish(out, reply, shows)?;
-    Ok(r.line)
+) -> io::Result<()> {
+    let reply = line.finish(terminal);
+    show_finish(out, reply, shows)
 }
 
 fn withdrawn<W: Write>(
     out: &mut W,
-    line: Line,
+    line: &mut Line,
     terminal: Terminal,
     shows: bool,
-) -> io::Result<Line> {
-    let r = withdraw_line(line, terminal);
-    let reply = r.reply;
-    show_withdraw(out, reply, shows)?;
-    Ok(r.line)
+) -> io::Result<()> {
+    let reply = line.withdraw(terminal);
+    show_withdraw(out, reply, shows)
 }
 
 // A number cut down to a terminal's or a byte's width.
@@ -349,31 +346,16 @@ fn running_damaged(running: Option<Terminal>, kind: u64, value: u64) -> Option<T
 }
 
 // One cell gets a value, which need not be one that it may have.
-fn damaged(line: Line, kind: u64, at: usize, value: u64) -> Line {
-    let before = line.session;
-    let table = before.table;
-    let table = table_damaged(table, kind, at, value);
-    let running = running_damaged(before.running, kind, value);
-    let mut set = before.set;
+fn damage(line: &mut Line, kind: u64, at: usize, value: u64) {
+    line.session.table = table_damaged(line.session.table, kind, at, value);
+    line.session.running = running_damaged(line.session.running, kind, value);
     if kind == 0 {
-        set = value;
+        line.session.set = value;
     }
-    let mut waiting = before.waiting;
     if kind == 3 {
-        waiting = value as usize;
+        line.session.waiting = value as usize;
     }
-    let session = Session {
-        table: table,
-        set: set,
-        running: running,
-        waiting: waiting,
-    };
-    let list = line.list;
-    let list = list_damaged(list, kind, at, value);
-    Line {
-        session: session,
-        list: list,
-    }
+    line.list = list_damaged(line.list, kind, at, value);
 }
 
 fn place_of(n: u64) -> usize {
@@ -383,16 +365,16 @@ fn place_of(n: u64) -> usize {
     1000
 }
 
-fn damage_line(line: Line, s: &[u8], kind: Field) -> Line {
+fn damage_line(line: &mut Line, s: &[u8], kind: Field) {
     let at = number(s, behind(s, kind.end));
     let value = number(s, behind(s, at.end));
-    damaged(line, kind.value, place_of(at.value), value.value)
+    damage(line, kind.value, place_of(at.value), value.value)
 }
 
 // One line of the script.
-fn turn<W: Write>(out: &mut W, line: Line, s: &[u8], shows: bool) -> io::Result<Line> {
+fn turn<W: Write>(out: &mut W, line: &mut Line, s: &[u8], shows: bool) -> io::Result<()> {
     if s.len() == 0 {
-        return Ok(line);
+        return Ok(());
     }
     let letter = s[0];
     let a = number(s, 2);
@@ -412,12 +394,12 @@ fn turn<W: Write>(out: &mut W, line: Line, s: &[u8], shows: bool) -> io::Result<
         }
         b'f' => finished(out, line, terminal, shows),
         b'w' => withdrawn(out, line, terminal, shows),
-        b's' => {
-            show_line(out, line, shows)?;
-            Ok(line)
+        b's' => show_line(out, line, shows),
+        b'd' => {
+            damage_line(line, s, a);
+            Ok(())
         }
-        b'd' => Ok(damage_line(line, s, a)),
-        _ => Ok(line),
+        _ => Ok(()),
     }
 }
 
@@ -445,7 +427,7 @@ fn run<W: Write>(out: &mut W, script: &[u8], shows: bool) -> io::Result<()> {
     while i < script.len() {
         if script[i] == NEWLINE {
             if from <= i {
-                line = turn(out, line, &script[from..i], shows)?;
+                turn(out, &mut line, &script[from..i], shows)?;
             }
             from = i + 1;
         }
