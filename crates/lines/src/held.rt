@@ -1,7 +1,7 @@
 // A record and a list of 64 entries held by value, and the calls on them: what a program keeps that lends nothing itself.
 ghost use Rattle.steps.specs.Calling.{Opens, Asks, Finishes, Withdraws};
 
-use session::calls::{ask, finish, open, withdraw};
+use session::calls;
 use standing::entries::Entry;
 use standing::numbers::Terminal;
 use standing::records::Session;
@@ -14,91 +14,28 @@ pub struct Line {
     pub list: [Entry; 64],
 }
 
-// A reply, and the line after the call.
-#[derive(Clone, Copy)]
-pub struct LineOpened {
-    pub reply: OpenReply,
-    pub line: Line,
-}
-
-#[derive(Clone, Copy)]
-pub struct LineAsked {
-    pub reply: AskReply,
-    pub line: Line,
-}
-
-#[derive(Clone, Copy)]
-pub struct LineFinished {
-    pub reply: FinishReply,
-    pub line: Line,
-}
-
-#[derive(Clone, Copy)]
-pub struct LineWithdrawn {
-    pub reply: WithdrawReply,
-    pub line: Line,
-}
-
-pub fn open_line(line: Line, table: Table) -> LineOpened
-    ensures { Opens line.session line.list table result.reply result.line.session result.line.list }
-{
-    let mut session = line.session;
-    let mut list = line.list;
-    let reply = open(&mut session, &mut list, table);
-    let line = Line {
-        session: session,
-        list: list,
-    };
-    LineOpened {
-        reply: reply,
-        line: line,
+impl Line {
+    pub fn open(&mut self, table: Table) -> OpenReply
+        ensures { Opens self.old.session self.old.list table result self.new.session self.new.list }
+    {
+        calls::open(&mut self.session, &mut self.list, table)
     }
-}
 
-pub fn ask_line(line: Line, terminal: Terminal, name: &[u8]) -> LineAsked
-    ensures { Asks line.session line.list terminal name.now result.reply result.line.session result.line.list }
-{
-    let mut session = line.session;
-    let mut list = line.list;
-    let reply = ask(&mut session, &mut list, terminal, name);
-    let line = Line {
-        session: session,
-        list: list,
-    };
-    LineAsked {
-        reply: reply,
-        line: line,
+    pub fn ask(&mut self, terminal: Terminal, name: &[u8]) -> AskReply
+        ensures { Asks self.old.session self.old.list terminal name.now result self.new.session self.new.list }
+    {
+        calls::ask(&mut self.session, &mut self.list, terminal, name)
     }
-}
 
-pub fn finish_line(line: Line, terminal: Terminal) -> LineFinished
-    ensures { Finishes line.session line.list terminal result.reply result.line.session result.line.list }
-{
-    let mut session = line.session;
-    let mut list = line.list;
-    let reply = finish(&mut session, &mut list, terminal);
-    let line = Line {
-        session: session,
-        list: list,
-    };
-    LineFinished {
-        reply: reply,
-        line: line,
+    pub fn finish(&mut self, terminal: Terminal) -> FinishReply
+        ensures { Finishes self.old.session self.old.list terminal result self.new.session self.new.list }
+    {
+        calls::finish(&mut self.session, &mut self.list, terminal)
     }
-}
 
-pub fn withdraw_line(line: Line, terminal: Terminal) -> LineWithdrawn
-    ensures { Withdraws line.session line.list terminal result.reply result.line.session result.line.list }
-{
-    let mut session = line.session;
-    let mut list = line.list;
-    let reply = withdraw(&mut session, &mut list, terminal);
-    let line = Line {
-        session: session,
-        list: list,
-    };
-    LineWithdrawn {
-        reply: reply,
-        line: line,
+    pub fn withdraw(&mut self, terminal: Terminal) -> WithdrawReply
+        ensures { Withdraws self.old.session self.old.list terminal result self.new.session self.new.list }
+    {
+        calls::withdraw(&mut self.session, &mut self.list, terminal)
     }
 }

@@ -1,4 +1,5 @@
 // The calls, over the record and the list that the caller lends: each reads them, has the by-value call decide, and writes what it says.
+// A call that is refused writes nothing.
 ghost use Rattle.steps.specs.Calling.{Opens, Asks, Finishes, Withdraws};
 
 use crate::lists::{append, blank, find, take_out};
@@ -14,10 +15,9 @@ use table::cells::Table;
 pub fn open(session: &mut Session, list: &mut [Entry], table: Table) -> OpenReply
     ensures { Opens session.old list.old table result session.new list.new }
 {
-    let out = opened(*session, list.len(), table);
-    *session = out.session;
-    blank(list, out.blanks);
-    out.reply
+    *session = opened(list.len(), table)?;
+    blank(list, 64);
+    Ok(())
 }
 
 // A terminal asks for the operation of a name.
@@ -26,10 +26,10 @@ pub fn ask(session: &mut Session, list: &mut [Entry], terminal: Terminal, name: 
 {
     let before = *session;
     let found = find(list, before.waiting, look_for(before, terminal));
-    let out = asked(before, list.len(), found, terminal, name);
-    *session = out.session;
-    append(list, out.place, out.entry);
-    out.reply
+    let asked = asked(before, list.len(), found, terminal, name)?;
+    *session = asked.session;
+    append(list, asked.place, asked.entry);
+    Ok(asked.reply)
 }
 
 // A terminal finishes what it runs.
@@ -38,10 +38,10 @@ pub fn finish(session: &mut Session, list: &mut [Entry], terminal: Terminal) -> 
 {
     let before = *session;
     let found = find(list, before.waiting, look_for_next(before, terminal));
-    let out = finished(before, list.len(), found, terminal);
-    *session = out.session;
-    take_out(list, out.used, out.place);
-    out.reply
+    let handed = finished(before, list.len(), found, terminal)?;
+    *session = handed.session;
+    take_out(list, handed.used, handed.place);
+    Ok(handed.reply)
 }
 
 // A terminal withdraws what it asked for.
@@ -50,8 +50,8 @@ pub fn withdraw(session: &mut Session, list: &mut [Entry], terminal: Terminal) -
 {
     let before = *session;
     let found = find(list, before.waiting, look_for(before, terminal));
-    let out = withdrawn(before, list.len(), found, terminal);
-    *session = out.session;
-    take_out(list, out.used, out.place);
-    out.reply
+    let withdrawn = withdrawn(before, list.len(), found, terminal)?;
+    *session = withdrawn.session;
+    take_out(list, withdrawn.used, withdrawn.place);
+    Ok(withdrawn.place)
 }

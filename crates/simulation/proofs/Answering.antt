@@ -17,21 +17,18 @@ use Rattle.meaning.specs.Line.{Line, runs, waits, refusal, step}
 use Rattle.meaning.proofs.RefusalCases.{Cases, refusal_cases}
 use Rattle.table.specs.Following.{table_permits}
 use Rattle.table.specs.declared.cells.Table.{Table}
+use Rattle.standing.specs.declared.numbers.Terminal.{Terminal}
+use Rattle.standing.specs.declared.searches.Waiter.{Waiter}
 use Rattle.standing.specs.declared.entries.Entry.{Entry}
 use Rattle.standing.specs.declared.records.Session.{Session}
-use Rattle.standing.specs.declared.records.State.{State}
-use Rattle.standing.specs.declared.records.State.TheVariants.{Free, Running}
-use Rattle.standing.specs.declared.searches.Found.{Found}
-use Rattle.standing.specs.declared.searches.Found.TheVariants.{Nobody, At}
 use Rattle.standing.specs.Lists.{in_use, seek}
-use Rattle.steps.specs.declared.replies.AskReply.TheVariants.{Refused as AskRefused}
-use Rattle.steps.specs.declared.replies.FinishReply.TheVariants.{Refused as FinishRefused}
-use Rattle.steps.specs.declared.replies.WithdrawReply.TheVariants.{Refused as WithdrawRefused}
+use Rattle.std.specs.Prelude.{Err, Option as RustOption, Some, None, is_some}
 use Rattle.steps.specs.Calling.Serves.{refuses}
-use Rattle.steps.specs.Refusals.{Row, First, None, terminal_of, Runs, Waits}
+use Rattle.steps.specs.Refusals.{Row, First, NoRow, terminal_of, Runs, Waits}
 use Rattle.steps.specs.Refusals.Row.{terminal_above_63, no_such_operation, ask_by_the_running, ask_by_a_waiting}
 use Rattle.steps.specs.Refusals.Row.{finish_by_another, withdraw_by_another}
-use Rattle.steps.specs.Values.{runs_in, is_found}
+use Rattle.steps.specs.Values.{runs_in}
+use Rattle.steps.proofs.RefusalNumbers.{refusal_by, row_has_refusal}
 use Rattle.steps.proofs.RowNumbers.{rows_left, ask_rows_left, finish_rows_left, withdraw_rows_left}
 use Rattle.steps.proofs.Verdicts.{runs_says, entry_waits}
 use Rattle.simulation.specs.Runs.{ReplyTo, Leaves}
@@ -48,20 +45,20 @@ pub record Answered (t : Table) (s : Session) (l : List Entry) (i : Line) (c : C
   pub same_reply : exchanged t c reply ≡ (step (table_permits t) (known_in t) i c).0
   pub still_alike : Alike t session list (step (table_permits t) (known_in t) i c).1
 
-runs_same : (st : State) (u : ℕ) → runs (runner_in st) u ≡ runs_in st (record { 0 = u })
-runs_same Free u = refl
-runs_same (Running v) u = refl
+runs_same : (st : RustOption Terminal) (u : ℕ) → runs (runner_in st) u ≡ runs_in st (record { 0 = u })
+runs_same None u = refl
+runs_same (Some v) u = refl
 
-waits_same : (t : Table) (f : Found) → waits (found_heard (entry_heard t) f) ≡ is_found f
-waits_same t Nobody = refl
-waits_same t (At w) = refl
+waits_same : (t : Table) (f : RustOption Waiter) → waits (found_heard (entry_heard t) f) ≡ is_some f
+waits_same t None = refl
+waits_same t (Some w) = refl
 
 module _ (s : Session) (l : List Entry) (i : Line) (a : Alike s.table s l i) where
   abbrev t : Table
   t = s.table
 
   runs_alike : (u : ℕ) → (runs i.running u ≡ true) ↔ Runs s u
-  runs_alike u = rw (← a.same_runner, runs_same s.state u) (runs_says s.state (record { 0 = u }))
+  runs_alike u = rw (← a.same_runner, runs_same s.running u) (runs_says s.running (record { 0 = u }))
 
   -- the terminal's entry is found at the same place
   pub entry_alike : (u : ℕ) → entry_of u i.waiting ≡ found_heard (entry_heard t) (seek (λ e. eqb e.terminal.0 u) (in_use s l))
@@ -80,7 +77,7 @@ module _ (s : Session) (l : List Entry) (i : Line) (a : Alike s.table s l i) whe
 
   -- what the tests of a call came to: the row that applies first; or none does, and what the step needs holds
   abbrev pub Verdict : Call → Option ℕ → Type 0
-  Verdict c none = None (Row s l c) × Needs c
+  Verdict c none = NoRow (Row s l c) × Needs c
   Verdict c (some m) = First (Row s l c) m
 
   past_all : {c : Call} {k : ℕ} → terminal_of c ≤ 63 → Row s l c k → 11 ≤ k
@@ -136,28 +133,28 @@ module _ (s : Session) (l : List Entry) (i : Line) (a : Alike s.table s l i) whe
   unfolding step
   refused_alike (ask u n) m e first =
       record {
-        reply = AskRefused m;
+        reply = Err (refusal_by m);
         session = s;
         list = l;
-        leaves = refuses m first refl;
-        same_reply = rw e;
+        leaves = refuses m first (rw (row_has_refusal first.applies));
+        same_reply = rw (e, row_has_refusal first.applies);
         still_alike = rw e a;
       }
   refused_alike (finish u) m e first =
       record {
-        reply = FinishRefused m;
+        reply = Err (refusal_by m);
         session = s;
         list = l;
-        leaves = refuses m first refl;
-        same_reply = rw e;
+        leaves = refuses m first (rw (row_has_refusal first.applies));
+        same_reply = rw (e, row_has_refusal first.applies);
         still_alike = rw e a;
       }
   refused_alike (withdraw u) m e first =
       record {
-        reply = WithdrawRefused m;
+        reply = Err (refusal_by m);
         session = s;
         list = l;
-        leaves = refuses m first refl;
-        same_reply = rw e;
+        leaves = refuses m first (rw (row_has_refusal first.applies));
+        same_reply = rw (e, row_has_refusal first.applies);
         still_alike = rw e a;
       }

@@ -23,25 +23,23 @@ use Rattle.table.specs.Cells.{names_of}
 use Rattle.table.specs.Following.{permission_set, found_in, permission_of, table_permits}
 use Rattle.table.specs.declared.cells.Table.{Table}
 use Rattle.table.proofs.OperationNames.{permission_named}
+use Rattle.standing.specs.declared.numbers.Terminal.{Terminal}
+use Rattle.standing.specs.declared.searches.Waiter.{Waiter}
 use Rattle.standing.specs.declared.entries.Entry.{Entry}
 use Rattle.standing.specs.declared.records.Session.{Session}
-use Rattle.standing.specs.declared.records.State.{State}
-use Rattle.standing.specs.declared.records.State.TheVariants.{Free, Running}
-use Rattle.standing.specs.declared.searches.Found.{Found}
-use Rattle.standing.specs.declared.searches.Found.TheVariants.{Nobody, At}
 use Rattle.standing.specs.Lists.{blank_entry, in_use, place_of, put_at, taken_out}
 use Rattle.standing.specs.Soundness.{meets_set}
 use Rattle.standing.proofs.Seeking.{Finds, seek_finds, found_in_use}
-use Rattle.steps.specs.declared.replies.AskReply.TheVariants.{Granted, Delayed}
+use Rattle.std.specs.Prelude.{Ok, Option as RustOption, Some, None, is_none}
+use Rattle.steps.specs.declared.replies.Ask.TheVariants.{Granted, Delayed}
+use Rattle.steps.specs.Answers.{FinishReply, WithdrawReply}
 use Rattle.steps.specs.declared.replies.Grant.{Grant}
 use Rattle.steps.specs.declared.replies.Next.TheVariants.{Granted as Grants, Nobody as NoNext}
-use Rattle.steps.specs.declared.replies.FinishReply.TheVariants.{Finished}
-use Rattle.steps.specs.declared.replies.WithdrawReply.TheVariants.{Withdrawn}
-use Rattle.steps.specs.Steps.{is_free, granting, counting, freed, ask_step as built_ask, picked as built_pick}
+use Rattle.steps.specs.Steps.{granting, counting, freed, ask_step as built_ask, picked as built_pick}
 use Rattle.steps.specs.Steps.{examined_to as built_examined, finish_step, entry_of as built_entry, withdraw_step}
 use Rattle.steps.specs.Calling.{entry_for}
 use Rattle.steps.specs.Calling.Serves.{does}
-use Rattle.steps.specs.Refusals.{Row, None}
+use Rattle.steps.specs.Refusals.{Row, NoRow}
 use Rattle.simulation.specs.Runs.{ReplyTo, Leaves}
 use Rattle.simulation.specs.Hearing.{entry_heard}
 use Rattle.simulation.specs.Likeness.{known_in, runner_in, set_at, SetStands, Alike}
@@ -73,7 +71,7 @@ module _ (s : Session) (l : List Entry) (i : Line) (a : Alike s.table s l i) whe
 
   -- after a call that leaves these, record and list are sound and long enough; so the lines are alike if the rest is
   alike_after : (c : Call) (r : ReplyTo c) (s' : Session) (l' : List Entry) (j : Line) → Leaves s l c r s' l' → s'.table ≡ t
-      → table_permits t j.history ≡ true → SetStands t j.running j.history s'.set → runner_in s'.state ≡ j.running
+      → table_permits t j.history ≡ true → SetStands t j.running j.history s'.set → runner_in s'.running ≡ j.running
       → map (entry_heard t) (in_use s' l') ≡ j.waiting → Alike t s' l' j
   alike_after c r s' l' j by table permitted its runner entries =
       record {
@@ -87,7 +85,7 @@ module _ (s : Session) (l : List Entry) (i : Line) (a : Alike s.table s l i) whe
       }
 
   -- an ask for an operation that there is
-  module _ (u : ℕ) (n : Name) (none-applies : None (Row s l (ask u n))) (known : known_in t (key n) ≡ true)
+  module _ (u : ℕ) (n : Name) (none-applies : NoRow (Row s l (ask u n))) (known : known_in t (key n) ≡ true)
       (goes_on : refusal (table_permits t) (known_in t) i (ask u n) ≡ none) where
     abbrev e : Entry
     e = entry_for s (record { 0 = u }) n
@@ -100,69 +98,69 @@ module _ (s : Session) (l : List Entry) (i : Line) (a : Alike s.table s l i) whe
     entry_same = ap (λ (k : Name). record { terminal = u; name = k }) (number_held (names_of t) (key n) known)
 
     -- both lines ask the same: whether the line is free, and the name permitted
-    test_same : (st : State) (r : Option ℕ) → runner_in st ≡ r → SetStands t r i.history s.set
-        → (free r && table_permits t (i.history ++ key n ∷ [])) ≡ (is_free st && meets_set s e.operation.0)
-    test_same Free none q its = meets_alike s.set its (key n) e.operation.0 permission_same
-    test_same Free (some v) q its = cc
-    test_same (Running v) none q its = cc
-    test_same (Running v) (some w) q its = refl
+    test_same : (st : RustOption Terminal) (r : Option ℕ) → runner_in st ≡ r → SetStands t r i.history s.set
+        → (free r && table_permits t (i.history ++ key n ∷ [])) ≡ (is_none st && meets_set s e.operation.0)
+    test_same None none q its = meets_alike s.set its (key n) e.operation.0 permission_same
+    test_same None (some v) q its = cc
+    test_same (Some v) none q its = cc
+    test_same (Some v) (some w) q its = refl
 
     abbrev asked_for : Named
     asked_for = record { terminal = u; name = key n }
 
-    ideal_test : (b : Bool) → (is_free s.state && meets_set s e.operation.0) ≡ b
+    ideal_test : (b : Bool) → (is_none s.running && meets_set s e.operation.0) ≡ b
         → (free i.running && table_permits t (i.history ++ key n ∷ [])) ≡ b
-    ideal_test b test = test_same s.state i.running a.same_runner a.its_set ∙ test
+    ideal_test b test = test_same s.running i.running a.same_runner a.its_set ∙ test
 
     -- of a free line the set is the set after all grants
     free_set : (r : Option ℕ) → free r ≡ true → SetStands t r i.history s.set → s.set ≡ set_at t i.history
     free_set none is its = its
     free_set (some v) is its = absurd (false≢true is)
 
-    ask_granted : (is_free s.state && meets_set s e.operation.0) ≡ true → Answered t s l i (ask u n)
+    ask_granted : (is_none s.running && meets_set s e.operation.0) ≡ true → Answered t s l i (ask u n)
     unfolding step ask_step built_ask
     ask_granted test =
         let (is_free, permitted) = (and-eq-true_iff (free i.running) _).0 (ideal_test true test) in
-        let by : Leaves s l (ask u n) Granted (granting s e s.waiting) l = does none-applies (rw test) in
+        let by : Leaves s l (ask u n) (Ok Granted) (granting s e s.waiting) l = does none-applies (rw test) in
         record {
-          reply = Granted;
+          reply = Ok Granted;
           session = granting s e s.waiting;
           list = l;
           leaves = by;
           same_reply = rw (goes_on, ideal_test true test);
           still_alike = rw (goes_on, ideal_test true test)
-              (alike_after (ask u n) Granted (granting s e s.waiting) l (grants i asked_for i.waiting) by refl permitted
+              (alike_after (ask u n) (Ok Granted) (granting s e s.waiting) l (grants i asked_for i.waiting) by refl permitted
               (shared_alike u s.set (free_set i.running is_free a.its_set) (key n) e.operation.0 permission_same)
               refl a.same_entries);
         }
 
-    ask_delayed : (is_free s.state && meets_set s e.operation.0) ≡ false → Answered t s l i (ask u n)
+    ask_delayed : (is_none s.running && meets_set s e.operation.0) ≡ false → Answered t s l i (ask u n)
     unfolding step ask_step built_ask
     ask_delayed test =
         let place = place_of (in_use s l) e in
         let later = counting s (suc s.waiting) in
-        let by : Leaves s l (ask u n) (Delayed place) later (put_at place e l) = does none-applies (rw test) in
-        let room = (leaves_sound s later l _ (ask u n) (Delayed place) by a.is_sound).record_sound.count_most in
+        let by : Leaves s l (ask u n) (Ok (Delayed place)) later (put_at place e l) = does none-applies (rw test) in
+        let room = (leaves_sound s later l _ (ask u n) (Ok (Delayed place)) by a.is_sound).record_sound.count_most in
         let es = i.waiting in
         let waits : Line = record { history = i.history; running = i.running; waiting = put (placed es asked_for) asked_for es } in
         let same_place : placed es asked_for ≡ place = rw (← a.same_entries) (place_heard (entry_heard t) (in_use s l) e) in
         let entries : map (entry_heard t) (take (suc s.waiting) (put_at place e l)) ≡ waits.waiting =
         rw (← a.same_entries, ← entry_same) (put_heard (entry_heard t) s.waiting l e (omega (arith, room, a.long_list))) in
         record {
-          reply = Delayed place;
+          reply = Ok (Delayed place);
           session = later;
           list = put_at place e l;
           leaves = by;
           same_reply = rw (goes_on, ideal_test false test, same_place);
           still_alike = rw (goes_on, ideal_test false test)
-              (alike_after (ask u n) (Delayed place) later (put_at place e l) waits by refl a.grants_permitted a.its_set
+              (alike_after (ask u n) (Ok (Delayed place)) later (put_at place e l) waits by refl a.grants_permitted a.its_set
               a.same_runner entries);
         }
 
     ask_alike : Answered t s l i (ask u n)
-    ask_alike = go (is_free s.state && meets_set s e.operation.0) refl
+    ask_alike = go (is_none s.running && meets_set s e.operation.0) refl
       where
-        go : (b : Bool) → (is_free s.state && meets_set s e.operation.0) ≡ b → Answered t s l i (ask u n)
+        go : (b : Bool) → (is_none s.running && meets_set s e.operation.0) ≡ b → Answered t s l i (ask u n)
         go true test = ask_granted test
         go false test = ask_delayed test
 
@@ -174,7 +172,7 @@ module _ (s : Session) (l : List Entry) (i : Line) (a : Alike s.table s l i) whe
       omega (arith, same, a.is_sound.operations_exist j there)
 
   -- a finish by the running terminal
-  module _ (u v : ℕ) (none-applies : None (Row s l (finish u))) (runs-now : i.running ≡ some v)
+  module _ (u v : ℕ) (none-applies : NoRow (Row s l (finish u))) (runs-now : i.running ≡ some v)
       (goes_on : refusal (table_permits t) (known_in t) i (finish u) ≡ none) where
     -- the set moves along the rows: it is then the set after all grants
     moved : union_of t.rows s.set ≡ set_at t i.history
@@ -190,17 +188,17 @@ module _ (s : Session) (l : List Entry) (i : Line) (a : Alike s.table s l i) whe
         (seek_heard (entry_heard t) (λ e. meets_set (freed s) e.operation.0) (λ e. table_permits t (i.history ++ e.name ∷ [])) (in_use s l)
         (λ j h. meets_alike _ moved _ _ (permission_named t a.is_sound.record_sound.table_sound _ (exists_in_use j h))))
 
-    abbrev Picks : Found → Type 0
+    abbrev Picks : RustOption Waiter → Type 0
     Picks = Finds (λ e. meets_set (freed s) e.operation.0) (in_use s l)
 
-    examined_same : (f : Found) → examined_to (table_permits t) (known_in t) i (found_heard (entry_heard t) f) ≡ built_examined (freed s) l f
-    examined_same Nobody = as_many_heard
-    examined_same (At w) = refl
+    examined_same : (f : RustOption Waiter) → examined_to (table_permits t) (known_in t) i (found_heard (entry_heard t) f) ≡ built_examined (freed s) l f
+    examined_same None = as_many_heard
+    examined_same (Some w) = refl
 
-    handed_alike : (f : Found) → built_pick (freed s) l ≡ f → Picks f → Answered t s l i (finish u)
+    handed_alike : (f : RustOption Waiter) → built_pick (freed s) l ≡ f → Picks f → Answered t s l i (finish u)
     unfolding step finish_step
-    handed_alike Nobody is finds =
-        let reply = Finished (record { examined = built_examined (freed s) l Nobody; next = NoNext }) in
+    handed_alike None is finds =
+        let reply : FinishReply = Ok (record { examined = built_examined (freed s) l None; next = NoNext }) in
         let by : Leaves s l (finish u) reply (freed s) l = does none-applies (rw is) in
         let after : Line = record { history = i.history; running = none; waiting = i.waiting } in
         record {
@@ -209,14 +207,14 @@ module _ (s : Session) (l : List Entry) (i : Line) (a : Alike s.table s l i) whe
           list = l;
           leaves = by;
           same_reply = rw (goes_on, picks_same, is)
-              (ap (λ (n : ℕ). finished u (done (record { examined = n; grants = none }))) (sym (examined_same Nobody)));
+              (ap (λ (n : ℕ). finished u (done (record { examined = n; grants = none }))) (sym (examined_same None)));
           still_alike = rw (goes_on, picks_same, is)
               (alike_after (finish u) reply (freed s) l after by refl a.grants_permitted moved refl a.same_entries);
         }
-    handed_alike (At w) is finds =
+    handed_alike (Some w) is finds =
         let e = w.entry in
         let grant : Grant = record { terminal = e.terminal; operation = e.operation } in
-        let reply = Finished (record { examined = built_examined (freed s) l (At w); next = Grants grant }) in
+        let reply : FinishReply = Ok (record { examined = built_examined (freed s) l (Some w); next = Grants grant }) in
         let later = granting (freed s) e (s.waiting - 1) in
         let left = taken_out s.waiting w.place l in
         let by : Leaves s l (finish u) reply later left = does none-applies (rw is) in
@@ -244,20 +242,20 @@ module _ (s : Session) (l : List Entry) (i : Line) (a : Alike s.table s l i) whe
     finish_alike = handed_alike (built_pick (freed s) l) refl (seek_finds _ (in_use s l))
 
   -- a withdrawal
-  module _ (u : ℕ) (none-applies : None (Row s l (withdraw u))) (goes_on : refusal (table_permits t) (known_in t) i (withdraw u) ≡ none) where
-    taken_back_alike : (f : Found) → built_entry s l u ≡ f → Finds (λ e. eqb e.terminal.0 u) (in_use s l) f → Answered t s l i (withdraw u)
+  module _ (u : ℕ) (none-applies : NoRow (Row s l (withdraw u))) (goes_on : refusal (table_permits t) (known_in t) i (withdraw u) ≡ none) where
+    taken_back_alike : (f : RustOption Waiter) → built_entry s l u ≡ f → Finds (λ e. eqb e.terminal.0 u) (in_use s l) f → Answered t s l i (withdraw u)
     unfolding step withdraw_step built_entry
-    taken_back_alike Nobody is finds =
+    taken_back_alike None is finds =
         record {
-          reply = Withdrawn 0;
+          reply = Ok 0;
           session = s;
           list = l;
           leaves = does none-applies (rw is);
           same_reply = rw (goes_on, entry_alike s l i a u, is);
           still_alike = rw (goes_on, entry_alike s l i a u, is) a;
         }
-    taken_back_alike (At w) is finds =
-        let reply = Withdrawn w.place in
+    taken_back_alike (Some w) is finds =
+        let reply : WithdrawReply = Ok w.place in
         let later = counting s (s.waiting - 1) in
         let left = taken_out s.waiting w.place l in
         let by : Leaves s l (withdraw u) reply later left = does none-applies (rw is) in

@@ -10,23 +10,23 @@ use lib.ListN.{length, get_or, take, length-map}
 use lib.Seq.{length-take-le}
 use Rattle.meaning.specs.Waiting.{Entry as Named, Found as Finding, behind as further, seek as look, place_of as placed, put, without}
 use Rattle.meaning.specs.Waiting.Found.{nobody, at}
+use Rattle.std.specs.Prelude.{Option as RustOption, Some, None}
+use Rattle.standing.specs.declared.searches.Waiter.{Waiter}
 use Rattle.standing.specs.declared.entries.Entry.{Entry}
-use Rattle.standing.specs.declared.searches.Found.{Found}
-use Rattle.standing.specs.declared.searches.Found.TheVariants.{Nobody, At}
 use Rattle.standing.specs.Lists.{blank_entry, place_of, put_at, moved_up, taken_out, behind, seek}
 
 -- entries are read by f
 module _ (f : Entry → Named) where
   -- what was found, read so
-  abbrev pub found_heard : Found → Finding
-  found_heard Nobody = nobody
-  found_heard (At w) = at w.place (f w.entry)
+  abbrev pub found_heard : RustOption Waiter → Finding
+  found_heard None = nobody
+  found_heard (Some w) = at w.place (f w.entry)
 
-  further_heard : (b : Bool) (e : Entry) (r : Found)
-      → cond b (at 0 (f e)) (further (found_heard r)) ≡ found_heard (cond b (At (record { place = 0; entry = e })) (behind r))
+  further_heard : (b : Bool) (e : Entry) (r : RustOption Waiter)
+      → cond b (at 0 (f e)) (further (found_heard r)) ≡ found_heard (cond b (Some (record { place = 0; entry = e })) (behind r))
   further_heard true e r = refl
-  further_heard false e Nobody = refl
-  further_heard false e (At w) = refl
+  further_heard false e None = refl
+  further_heard false e (Some w) = refl
 
   pub seek_heard : (test : Entry → Bool) (told : Named → Bool) (es : List Entry)
       → ((i : ℕ) → i < length es → told (f (get_or es i blank_entry)) ≡ test (get_or es i blank_entry))

@@ -19,7 +19,7 @@ use Rattle.standing.specs.declared.entries.Entry.{Entry}
 use Rattle.standing.specs.declared.records.Session.{Session}
 use Rattle.standing.specs.Lists.{blanked}
 use Rattle.standing.proofs.EntryLaws.{blanked_says}
-use Rattle.steps.specs.declared.replies.OpenReply.TheVariants.{Opened}
+use Rattle.std.specs.Prelude.{Ok}
 use Rattle.steps.specs.Calling.{Opens}
 use Rattle.steps.specs.Promises.{Untouched, BlankBehind}
 use Rattle.steps.specs.Refusals.OpenRow.{short_list}
@@ -99,7 +99,7 @@ module _ (t : Table) where
       }
 
   -- an opening that was not refused
-  module _ (s s₀ : Session) (l l₀ : List Entry) (opens : Opens s l t Opened s₀ l₀) where
+  module _ (s s₀ : Session) (l l₀ : List Entry) (opens : Opens s l t (Ok tt) s₀ l₀) where
     pub opened_so : (s₀ ≡ built.opening t) × (l₀ ≡ blanked 64 l)
     unfolding open_step
     opened_so = opened_served (λ o. (o.session ≡ built.opening t) × (o.list ≡ blanked 64 l)) opens refl (λ none. (refl, refl))
@@ -113,7 +113,7 @@ module _ (t : Table) where
     unfolding table_permits permits set_after
     opening_alike =
         let (is, il) = opened_so in
-        let sound = opened_sound s s₀ l l₀ t Opened opens refl in
+        let sound = opened_sound s s₀ l l₀ t (Ok tt) opens refl in
         record {
           its_table = rw is;
           is_sound = sound;
@@ -129,8 +129,8 @@ run_simulates t ms s l run =
     let first = run.opened in
     let blank = run.blanked in
     let alike = opening_alike t run.lent first run.list blank run.opens in
-    let behind = opened_blank run.lent first run.list blank t Opened run.opens refl in
-    let rest = open_leaves_the_rest run.lent first run.list blank t Opened run.opens in
+    let behind = opened_blank run.lent first run.list blank t (Ok tt) run.opens refl in
+    let rest = open_leaves_the_rest run.lent first run.list blank t (Ok tt) run.opens in
     let all = run_alike t first s blank l opening ms alike behind run.runs in
     let grants = ap (λ (j : Line). j.history) ((line_keeps_its_promises (table_permits t) (known_in t)).line_is_heard (calls_of ms)) in
     record {

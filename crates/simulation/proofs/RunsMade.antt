@@ -12,7 +12,7 @@ use Rattle.table.specs.declared.cells.Table.{Table}
 use Rattle.standing.specs.declared.entries.Entry.{Entry}
 use Rattle.standing.specs.declared.records.Session.{Session}
 use Rattle.standing.specs.Lists.{blanked}
-use Rattle.steps.specs.declared.replies.OpenReply.TheVariants.{Opened}
+use Rattle.std.specs.Prelude.{Ok}
 use Rattle.steps.specs.Calling.{Opens}
 use Rattle.steps.specs.Calling.Serves.{does}
 use Rattle.steps.specs.Steps.{open_step}
@@ -60,7 +60,7 @@ makes_any t s l i a (c ∷ cs) =
 
 -- over a sound table, on a list that is long enough, no opening is refused
 opens_always : (t : Table) (s : Session) (l : List Entry) → TableSound t → 64 ≤ length l
-    → Opens s l t Opened (built.opening t) (blanked 64 l)
+    → Opens s l t (Ok tt) (built.opening t) (blanked 64 l)
 unfolding open_step
 opens_always t s l sound long = does (λ m row. (open_rows_left t l row).2 long sound) refl
 

@@ -1,5 +1,5 @@
 -- What is heard of the built line's calls and seen of its list, operations read by name.
-use Rattle.std.specs.Prelude.{◌≡◌, List, map, ℕ}
+use Rattle.std.specs.Prelude.{◌≡◌, List, map, ℕ, Ok, Err}
 use Rattle.std.proofs.Math.Option.{Option, some, none}
 use Rattle.meaning.specs.Waiting.{Entry as Named}
 use Rattle.meaning.specs.Calls.{Call, Reply, Grant, AskReply as AskHeard, FinishReply as FinishHeard, Exchange}
@@ -12,14 +12,10 @@ use Rattle.table.specs.declared.cells.Table.{Table}
 use Rattle.standing.specs.declared.entries.Entry.{Entry}
 use Rattle.standing.specs.declared.records.Session.{Session}
 use Rattle.standing.specs.Lists.{in_use}
-use Rattle.steps.specs.declared.replies.AskReply.{AskReply}
-use Rattle.steps.specs.declared.replies.AskReply.TheVariants.{Granted, Delayed, Refused as AskRefused}
+use Rattle.steps.specs.declared.replies.Ask.TheVariants.{Granted, Delayed}
 use Rattle.steps.specs.declared.replies.Next.{Next}
 use Rattle.steps.specs.declared.replies.Next.TheVariants.{Granted as Grants, Nobody}
-use Rattle.steps.specs.declared.replies.FinishReply.{FinishReply}
-use Rattle.steps.specs.declared.replies.FinishReply.TheVariants.{Finished, Refused as FinishRefused}
-use Rattle.steps.specs.declared.replies.WithdrawReply.{WithdrawReply}
-use Rattle.steps.specs.declared.replies.WithdrawReply.TheVariants.{Withdrawn, Refused as WithdrawRefused}
+use Rattle.steps.specs.Answers.{AskReply, FinishReply, WithdrawReply, number_of}
 use Rattle.simulation.specs.Runs.{ReplyTo, Made, FromOpening}
 
 -- an entry of the list
@@ -28,21 +24,21 @@ entry_heard t e = record { terminal = e.terminal.0; name = name_in t e.operation
 
 -- the replies
 abbrev pub ask_heard : AskReply → Reply AskHeard
-ask_heard Granted = done granted
-ask_heard (Delayed n) = done (delayed n)
-ask_heard (AskRefused m) = refused m
+ask_heard (Ok Granted) = done granted
+ask_heard (Ok (Delayed n)) = done (delayed n)
+ask_heard (Err r) = refused (number_of r)
 
 abbrev pub next_heard : Table → Next → Option Grant
 next_heard t (Grants g) = some (record { terminal = g.terminal.0; name = name_in t g.operation.0 })
 next_heard t Nobody = none
 
 abbrev pub finish_heard : Table → FinishReply → Reply FinishHeard
-finish_heard t (Finished f) = done (record { examined = f.examined; grants = next_heard t f.next })
-finish_heard t (FinishRefused m) = refused m
+finish_heard t (Ok f) = done (record { examined = f.examined; grants = next_heard t f.next })
+finish_heard t (Err r) = refused (number_of r)
 
 abbrev pub withdraw_heard : WithdrawReply → Reply ℕ
-withdraw_heard (Withdrawn p) = done p
-withdraw_heard (WithdrawRefused m) = refused m
+withdraw_heard (Ok p) = done p
+withdraw_heard (Err r) = refused (number_of r)
 
 -- a call with its reply
 abbrev pub exchanged : Table → (c : Call) → ReplyTo c → Exchange

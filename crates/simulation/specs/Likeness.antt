@@ -1,5 +1,5 @@
 -- The built line beside the ideal line: what holds of both after the same calls.
-use Rattle.std.specs.Prelude.{◌≡◌, Bool, true, List, [], ◌∷◌, ◌++◌, map, ℕ, ◌≤◌, length}
+use Rattle.std.specs.Prelude.{◌≡◌, Bool, true, List, [], ◌∷◌, ◌++◌, map, ℕ, ◌≤◌, length, Option as RustOption, Some, None}
 use Rattle.std.proofs.Math.Option.{Option, some, none}
 use Rattle.std.specs.Int.Bits.{bit_and}
 use Rattle.meaning.specs.Names.{Name}
@@ -9,10 +9,9 @@ use Rattle.meaning.specs.Line.{Line}
 use Rattle.table.specs.Cells.{names_of}
 use Rattle.table.specs.Following.{permission_of, table_permits}
 use Rattle.table.specs.declared.cells.Table.{Table}
+use Rattle.standing.specs.declared.numbers.Terminal.{Terminal}
 use Rattle.standing.specs.declared.entries.Entry.{Entry}
 use Rattle.standing.specs.declared.records.Session.{Session}
-use Rattle.standing.specs.declared.records.State.{State}
-use Rattle.standing.specs.declared.records.State.TheVariants.{Free, Running}
 use Rattle.standing.specs.Lists.{in_use}
 use Rattle.standing.specs.Soundness.{Sound}
 use Rattle.simulation.specs.Hearing.{entry_heard}
@@ -22,9 +21,9 @@ abbrev pub known_in : Table → Name → Bool
 known_in t k = holds (names_of t) k
 
 -- the running terminal, or none where the record is free
-abbrev pub runner_in : State → Option ℕ
-runner_in Free = none
-runner_in (Running u) = some u.0
+abbrev pub runner_in : RustOption Terminal → Option ℕ
+runner_in None = none
+runner_in (Some u) = some u.0
 
 -- the set of table t after the history h, all of it finished
 abbrev pub set_at : Table → List Name → ℕ
@@ -44,5 +43,5 @@ pub record Alike (t : Table) (s : Session) (l : List Entry) (i : Line) : Type 0 
   pub grants_permitted : table_permits t i.history ≡ true
   pub its_set : SetStands t i.running i.history s.set
   -- the same terminal runs, or none; the same entries wait, operations read by name
-  pub same_runner : runner_in s.state ≡ i.running
+  pub same_runner : runner_in s.running ≡ i.running
   pub same_entries : map (entry_heard t) (in_use s l) ≡ i.waiting

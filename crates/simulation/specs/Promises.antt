@@ -53,7 +53,7 @@ pub record Simulated (t : Table) (ms : List Made) (s : Session) (l : List Entry)
   -- record and list are sound, and the entries in use, operations read by name, are those of the ideal line
   pub alike : Alike t s l (after (table_permits t) (known_in t) opening (calls_of ms))
   -- the set is the set after the history of grants, as calls and replies show it
-  pub its_set : SetStands t (runner_in s.state) (granted_names (account (map (heard t) ms))) s.set
+  pub its_set : SetStands t (runner_in s.running) (granted_names (account (map (heard t) ms))) s.set
   -- the list behind the entries in use: blank up to 64, and then as it was lent
   pub blank_behind : BlankBehind s l
   pub rest_as_lent : Untouched run.list l

@@ -1,14 +1,11 @@
 -- Calls of the built line one after the other, as the contracts of `open`, `ask`, `finish` and `withdraw` give them.
-use Rattle.std.specs.Prelude.{◌≡◌, List, [], ◌∷◌, map}
+use Rattle.std.specs.Prelude.{◌≡◌, List, [], ◌∷◌, map, Ok}
 use Rattle.meaning.specs.Calls.{Call}
 use Rattle.meaning.specs.Calls.Call.{ask, finish, withdraw}
 use Rattle.table.specs.declared.cells.Table.{Table}
 use Rattle.standing.specs.declared.entries.Entry.{Entry}
 use Rattle.standing.specs.declared.records.Session.{Session}
-use Rattle.steps.specs.declared.replies.OpenReply.TheVariants.{Opened}
-use Rattle.steps.specs.declared.replies.AskReply.{AskReply}
-use Rattle.steps.specs.declared.replies.FinishReply.{FinishReply}
-use Rattle.steps.specs.declared.replies.WithdrawReply.{WithdrawReply}
+use Rattle.steps.specs.Answers.{AskReply, FinishReply, WithdrawReply}
 use Rattle.steps.specs.Calling.{Opens, Asks, Finishes, Withdraws}
 
 -- what the function of a call returns
@@ -43,5 +40,5 @@ pub record FromOpening (t : Table) (ms : List Made) (s' : Session) (l' : List En
   -- the record and list that the opening left
   pub opened : Session
   pub blanked : List Entry
-  pub opens : Opens lent list t Opened opened blanked
+  pub opens : Opens lent list t (Ok tt) opened blanked
   pub runs : Run opened blanked ms s' l'

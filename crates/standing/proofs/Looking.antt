@@ -8,16 +8,15 @@ use native.Mathlib.Nat.{zero-add, add-zero, add-suc, suc-add}
 use lib.Bits.{bit_or}
 use lib.Dec.{eqb, ltb}
 use Rattle.meaning.specs.Sets.{mem}
+use Rattle.std.specs.Prelude.{Option, Some, None}
 use Rattle.standing.specs.declared.entries.Entry.{Entry}
 use Rattle.standing.specs.declared.searches.Search.{Search}
 use Rattle.standing.specs.declared.searches.Waiter.{Waiter}
-use Rattle.standing.specs.declared.searches.Found.{Found}
-use Rattle.standing.specs.declared.searches.Found.TheVariants.{Nobody, At}
 use Rattle.standing.specs.Lists.{behind, seek}
 use Rattle.standing.specs.Searching.{bit_of, entry_fits, or_here, examined, looked}
 
 -- the first to pass a test, from place p on, unless one was found before
-abbrev onward : (Entry → Bool) → ℕ → Found → List Entry → Found
+abbrev onward : (Entry → Bool) → ℕ → Option Waiter → List Entry → Option Waiter
 onward test p f [] = f
 onward test p f (e ∷ es) = onward test (suc p) (or_here f (test e) p e) es
 
@@ -34,49 +33,49 @@ first_onward p s [] = refl
 first_onward p s (e ∷ es) = first_onward (suc p) (examined s e p) es
 
 -- p places further on
-abbrev shifted : ℕ → Found → Found
-shifted p Nobody = Nobody
-shifted p (At w) = At (record { place = p + w.place; entry = w.entry })
+abbrev shifted : ℕ → Option Waiter → Option Waiter
+shifted p None = None
+shifted p (Some w) = Some (record { place = p + w.place; entry = w.entry })
 
-shifted_none : (f : Found) → shifted 0 f ≡ f
-shifted_none Nobody = refl
-shifted_none (At w) = ap (λ (p : ℕ). At (record { place = p; entry = w.entry })) (zero-add w.place)
+shifted_none : (f : Option Waiter) → shifted 0 f ≡ f
+shifted_none None = refl
+shifted_none (Some w) = ap (λ (p : ℕ). Some (record { place = p; entry = w.entry })) (zero-add w.place)
 
-shifted_behind : (p : ℕ) (f : Found) → shifted (suc p) f ≡ shifted p (behind f)
-shifted_behind p Nobody = refl
-shifted_behind p (At w) =
-    ap (λ (q : ℕ). At (record { place = q; entry = w.entry })) (suc-add p w.place ∙ sym (add-suc p w.place))
+shifted_behind : (p : ℕ) (f : Option Waiter) → shifted (suc p) f ≡ shifted p (behind f)
+shifted_behind p None = refl
+shifted_behind p (Some w) =
+    ap (λ (q : ℕ). Some (record { place = q; entry = w.entry })) (suc-add p w.place ∙ sym (add-suc p w.place))
 
 -- what was found stays
-onward_stays : (test : Entry → Bool) (p : ℕ) (es : List Entry) (w : Waiter) → onward test p (At w) es ≡ At w
+onward_stays : (test : Entry → Bool) (p : ℕ) (es : List Entry) (w : Waiter) → onward test p (Some w) es ≡ Some w
 onward_stays test p [] w = refl
 onward_stays test p (e ∷ es) w = onward_stays test (suc p) es w
 
-onward_here : (test : Entry → Bool) (p : ℕ) (e : Entry) (es : List Entry) (here : Bool) (f : Found)
-    → onward test (suc p) Nobody es ≡ shifted (suc p) f
-    → onward test (suc p) (or_here Nobody here p e) es ≡ shifted p (cond here (At (record { place = 0; entry = e })) (behind f))
+onward_here : (test : Entry → Bool) (p : ℕ) (e : Entry) (es : List Entry) (here : Bool) (f : Option Waiter)
+    → onward test (suc p) None es ≡ shifted (suc p) f
+    → onward test (suc p) (or_here None here p e) es ≡ shifted p (cond here (Some (record { place = 0; entry = e })) (behind f))
 onward_here test p e es true f later =
     onward_stays test (suc p) es (record { place = p; entry = e })
-    ∙ ap (λ (q : ℕ). At (record { place = q; entry = e })) (sym (add-zero p))
+    ∙ ap (λ (q : ℕ). Some (record { place = q; entry = e })) (sym (add-zero p))
 onward_here test p e es false f later = later ∙ shifted_behind p f
 
-onward_seeks : (test : Entry → Bool) (p : ℕ) (es : List Entry) → onward test p Nobody es ≡ shifted p (seek test es)
+onward_seeks : (test : Entry → Bool) (p : ℕ) (es : List Entry) → onward test p None es ≡ shifted p (seek test es)
 unfolding seek
 onward_seeks test p [] = refl
 onward_seeks test p (e ∷ es) = onward_here test p e es (test e) (seek test es) (onward_seeks test (suc p) es)
 
 module _ (s : Search) (es : List Entry) where
-  pub looked_own : s.own ≡ Nobody → (looked 0 s es).own ≡ seek (λ e. eqb e.terminal.0 s.terminal.0) es
+  pub looked_own : s.own ≡ None → (looked 0 s es).own ≡ seek (λ e. eqb e.terminal.0 s.terminal.0) es
   looked_own none =
       own_onward 0 s es
-      ∙ ap (λ (f : Found). onward (λ e. eqb e.terminal.0 s.terminal.0) 0 f es) none
+      ∙ ap (λ (f : Option Waiter). onward (λ e. eqb e.terminal.0 s.terminal.0) 0 f es) none
       ∙ onward_seeks _ 0 es
       ∙ shifted_none _
 
-  pub looked_first : s.first ≡ Nobody → (looked 0 s es).first ≡ seek (λ e. mem e.operation.0 s.wanted) es
+  pub looked_first : s.first ≡ None → (looked 0 s es).first ≡ seek (λ e. mem e.operation.0 s.wanted) es
   looked_first none =
       first_onward 0 s es
-      ∙ ap (λ (f : Found). onward (λ e. mem e.operation.0 s.wanted) 0 f es) none
+      ∙ ap (λ (f : Option Waiter). onward (λ e. mem e.operation.0 s.wanted) 0 f es) none
       ∙ onward_seeks _ 0 es
       ∙ shifted_none _
 

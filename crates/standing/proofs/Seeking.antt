@@ -8,11 +8,10 @@ use native.Mathlib.Nat.{not-suc-le-zero, le_of_suc-le-suc}
 use native.Mathlib.Omega.{arith}
 use lib.ListN.{length, get_or}
 use lib.Seq.{length-take-le, get_or-take}
+use Rattle.std.specs.Prelude.{Option, Some, None}
 use Rattle.standing.specs.declared.entries.Entry.{Entry}
 use Rattle.standing.specs.declared.records.Session.{Session}
 use Rattle.standing.specs.declared.searches.Waiter.{Waiter}
-use Rattle.standing.specs.declared.searches.Found.{Found}
-use Rattle.standing.specs.declared.searches.Found.TheVariants.{Nobody, At}
 use Rattle.standing.specs.Lists.{blank_entry, in_use, behind, seek}
 
 -- the entries before place n fail the test
@@ -27,21 +26,21 @@ pub record Earliest (test : Entry → Bool) (es : List Entry) (w : Waiter) : Typ
   pub others : FailBefore test es w.place
 
 -- what it means to have found f
-abbrev pub Finds : (Entry → Bool) → List Entry → Found → Type 0
-Finds test es Nobody = FailBefore test es (length es)
-Finds test es (At w) = Earliest test es w
+abbrev pub Finds : (Entry → Bool) → List Entry → Option Waiter → Type 0
+Finds test es None = FailBefore test es (length es)
+Finds test es (Some w) = Earliest test es w
 
 module _ (test : Entry → Bool) (e : Entry) (es : List Entry) where
   fail_from_first : (n : ℕ) → test e ≡ false → FailBefore test es n → FailBefore test (e ∷ es) (suc n)
   fail_from_first n q h zero l = q
   fail_from_first n q h (suc i) l = h i (le_of_suc-le-suc l)
 
-  finds_behind : (b : Bool) → test e ≡ b → (f : Found) → Finds test es f
-      → Finds test (e ∷ es) (cond b (At (record { place = 0; entry = e })) (behind f))
+  finds_behind : (b : Bool) → test e ≡ b → (f : Option Waiter) → Finds test es f
+      → Finds test (e ∷ es) (cond b (Some (record { place = 0; entry = e })) (behind f))
   finds_behind true q f h =
       record { there = omega arith; entry_there = refl; passes = q; others = λ i l. absurd (not-suc-le-zero l) }
-  finds_behind false q Nobody h = fail_from_first (length es) q h
-  finds_behind false q (At w) h =
+  finds_behind false q None h = fail_from_first (length es) q h
+  finds_behind false q (Some w) h =
       record {
         there = omega (arith, h.there);
         entry_there = h.entry_there;
@@ -62,5 +61,5 @@ module _ (s : Session) (l : List Entry) (fits : s.waiting ≤ length l) (test : 
       let here : w.place < s.waiting = omega (arith, first.there, length-take-le s.waiting l fits) in
       (here, sym (get_or-take s.waiting l w.place blank_entry here) ∙ first.entry_there)
 
-  pub nobody_in_use : Finds test (in_use s l) Nobody → FailBefore test l s.waiting
+  pub nobody_in_use : Finds test (in_use s l) None → FailBefore test l s.waiting
   nobody_in_use none i h = rw get_or-take at (none i (omega (arith, length-take-le s.waiting l fits)))

@@ -2,21 +2,20 @@
 use mathlib.Core.Path.{◌≡◌, ap, sym}
 use mathlib.Core.Bool.{Bool, true, false, false≢true}
 use Prim.Native.Nat.{ℕ}
+use Rattle.std.specs.Prelude.{Option, Some, None}
 use Rattle.standing.specs.declared.numbers.Terminal.{Terminal}
-use Rattle.standing.specs.declared.records.State.{State}
-use Rattle.standing.specs.declared.records.State.TheVariants.{Free, Running}
 
-abbrev idle : State → Bool
-idle Free = true
-idle (Running t) = false
+abbrev idle : Option Terminal → Bool
+idle None = true
+idle (Some t) = false
 
-pub free_not_running : {A : Type 0} (t : Terminal) → Free ≡ Running t → A
+pub free_not_running : {A : Type 0} (t : Terminal) → None ≡ Some t → A
 free_not_running t e = absurd (false≢true (sym (ap idle e)))
 
-abbrev runner : State → ℕ
-runner Free = 64
-runner (Running t) = t.0
+abbrev runner : Option Terminal → ℕ
+runner None = 64
+runner (Some t) = t.0
 
 -- who runs is one
-pub same_runner : (u t : Terminal) → Running u ≡ Running t → u.0 ≡ t.0
+pub same_runner : (u t : Terminal) → Some u ≡ Some t → u.0 ≡ t.0
 same_runner u t e = ap runner e

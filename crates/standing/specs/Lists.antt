@@ -1,9 +1,8 @@
 -- The waiting list: what is done with its entries.
-use Rattle.std.specs.Prelude.{Bool, cond, List, [], ◌∷◌, ℕ, zero, suc, length, set, take}
+use Rattle.std.specs.Prelude.{Bool, cond, List, [], ◌∷◌, ℕ, zero, suc, length, set, take, Option, Some, None}
+use Rattle.standing.specs.declared.searches.Waiter.{Waiter}
 use Rattle.standing.specs.declared.entries.Entry.{Entry}
 use Rattle.standing.specs.declared.records.Session.{Session}
-use Rattle.standing.specs.declared.searches.Found.{Found}
-use Rattle.standing.specs.declared.searches.Found.TheVariants.{Nobody, At}
 
 -- "blank (terminal 0, operation 0)"
 abbrev pub blank_entry : Entry
@@ -41,11 +40,11 @@ taken_out (suc n) zero (e ∷ l) = moved_up n l
 taken_out (suc n) (suc p) (e ∷ l) = e ∷ taken_out n p l
 
 -- what was found among the entries behind one
-abbrev pub behind : Found → Found
-behind Nobody = Nobody
-behind (At w) = At (record { place = suc w.place; entry = w.entry })
+abbrev pub behind : Option Waiter → Option Waiter
+behind None = None
+behind (Some w) = Some (record { place = suc w.place; entry = w.entry })
 
 -- the first entry that passes a test, with its place
-unfoldable pub seek : (Entry → Bool) → List Entry → Found
-seek test [] = Nobody
-seek test (e ∷ es) = cond (test e) (At (record { place = 0; entry = e })) (behind (seek test es))
+unfoldable pub seek : (Entry → Bool) → List Entry → Option Waiter
+seek test [] = None
+seek test (e ∷ es) = cond (test e) (Some (record { place = 0; entry = e })) (behind (seek test es))

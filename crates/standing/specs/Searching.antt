@@ -1,16 +1,15 @@
 -- Looking through the list once, an entry at a time: what the inner functions say. The contracts of the calls do not speak of it.
-use Rattle.std.specs.Prelude.{Bool, true, false, cond, not, ◌&&◌, List, [], ◌∷◌, map, ℕ, zero, suc, ◌^◌, ◌/◌, eqb, ltb, take}
+use Rattle.std.specs.Prelude.{Bool, true, false, cond, not, ◌&&◌, List, [], ◌∷◌, map, ℕ, zero, suc, ◌^◌, ◌/◌, eqb, ltb, take, Option, Some, None}
+use Rattle.std.specs.Bool.{then_some}
 use Rattle.std.specs.Int.Bits.{bit_or}
+use Rattle.std.specs.Option.{option_or}
 use Rattle.meaning.specs.Sets.{mem, union_of}
 use Rattle.table.specs.declared.numbers.Operation.{Operation}
+use Rattle.standing.specs.declared.searches.Waiter.{Waiter}
 use Rattle.standing.specs.declared.numbers.Terminal.{Terminal}
 use Rattle.standing.specs.declared.entries.Entry.{Entry}
 use Rattle.standing.specs.declared.records.Session.{Session}
-use Rattle.standing.specs.declared.records.State.{State}
-use Rattle.standing.specs.declared.records.State.TheVariants.{Free, Running}
 use Rattle.standing.specs.declared.searches.Search.{Search}
-use Rattle.standing.specs.declared.searches.Found.{Found}
-use Rattle.standing.specs.declared.searches.Found.TheVariants.{Nobody, At}
 
 -- the set of n alone; of a number from 64 on, the empty set
 unfoldable pub bit_of : ℕ → ℕ
@@ -29,9 +28,8 @@ entry_fits s e =
     && not (mem e.operation.0 s.barred)
 
 -- what was found before stays
-abbrev pub or_here : Found → Bool → ℕ → Entry → Found
-or_here (At w) here p e = At w
-or_here Nobody here p e = cond here (At (record { place = p; entry = e })) Nobody
+abbrev pub or_here : Option Waiter → Bool → ℕ → Entry → Option Waiter
+or_here found here p e = option_or found (then_some here (record { place = p; entry = e }))
 
 -- the entry e at place p is examined
 unfoldable pub examined : Search → Entry → ℕ → Search
@@ -57,13 +55,13 @@ abbrev pub operations_by : Session → ℕ → ℕ
 operations_by s set = operations_in (take s.table.positions s.table.operations) set
 
 -- while free, no entry may have an operation that meets the set; while running, none may have the running terminal
-abbrev pub barred_in : State → ℕ → ℕ
-barred_in Free os = os
-barred_in (Running t) os = 0
+abbrev pub barred_in : Option Terminal → ℕ → ℕ
+barred_in None os = os
+barred_in (Some t) os = 0
 
-abbrev pub taken_in : State → ℕ
-taken_in Free = 0
-taken_in (Running t) = bit_of t.0
+abbrev pub taken_in : Option Terminal → ℕ
+taken_in None = 0
+taken_in (Some t) = bit_of t.0
 
 -- one number below n, and no other, is in the set
 unfoldable pub sole_in : ℕ → ℕ → Bool
@@ -71,9 +69,9 @@ sole_in zero s = false
 sole_in (suc n) s = cond (mem 0 s) (eqb s 1) (sole_in n (s / 2))
 
 -- while running, the terminal is below 64 and one operation meets the set
-abbrev pub state_fits : State → ℕ → Bool
-state_fits Free os = true
-state_fits (Running t) os = ltb t.0 64 && sole_in 64 os
+abbrev pub state_fits : Option Terminal → ℕ → Bool
+state_fits None os = true
+state_fits (Some t) os = ltb t.0 64 && sole_in 64 os
 
 -- what a search starts with: for terminal t, and for the first entry of an operation in w
 unfoldable pub searching : Session → Terminal → ℕ → Search
@@ -82,11 +80,11 @@ searching s t w =
       terminal = t;
       wanted = w;
       names = s.table.names;
-      barred = barred_in s.state (operations_by s s.set);
-      taken = taken_in s.state;
+      barred = barred_in s.running (operations_by s s.set);
+      taken = taken_in s.running;
       fits = true;
-      own = Nobody;
-      first = Nobody;
+      own = None;
+      first = None;
     }
 
 -- an ask and a withdrawal look for the terminal only; a finish for the operations that meet the set that it leaves

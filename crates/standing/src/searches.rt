@@ -2,11 +2,11 @@
 ghost use Rattle.std.specs.Prelude.{◌≡◌, take};
 ghost use Rattle.std.specs.Int.Bits.{bit_or};
 ghost use Rattle.meaning.specs.Sets.{mem};
-ghost use Rattle.standing.specs.Searching.{bit_of, operations_in, or_here, entry_fits, examined, barred_in, taken_in, searching, looking, looking_next};
+ghost use Rattle.standing.specs.Searching.{bit_of, operations_in, entry_fits, examined, barred_in, taken_in, searching, looking, looking_next};
 
 use crate::entries::Entry;
 use crate::numbers::{Terminal, least};
-use crate::records::{Session, State};
+use crate::records::Session;
 use table::numbers::Operation;
 use table::sets::union_of;
 
@@ -15,12 +15,6 @@ use table::sets::union_of;
 pub struct Waiter {
     pub place: usize,
     pub entry: Entry,
-}
-
-#[derive(Clone, Copy)]
-pub enum Found {
-    Nobody,
-    At(Waiter),
 }
 
 // What is looked for, and what is found so far.
@@ -39,9 +33,9 @@ pub struct Search {
     // every entry so far is as it may be
     pub fits: bool,
     // the first entry of the terminal
-    pub own: Found,
+    pub own: Option<Waiter>,
     // the first entry of a wanted operation
-    pub first: Found,
+    pub first: Option<Waiter>,
 }
 
 // n is in the set.
@@ -89,24 +83,6 @@ pub fn operations_in(positions: usize, operations: [Operation; 64], set: u64) ->
     out
 }
 
-// What was found before stays.
-fn or_here(before: Found, here: bool, place: usize, e: Entry) -> Found
-    ensures { result ≡ or_here before here place e }
-{
-    match before {
-        Found::At(w) => Found::At(w),
-        Found::Nobody => {
-            if here {
-                return Found::At(Waiter {
-                    place: place,
-                    entry: e,
-                });
-            }
-            Found::Nobody
-        }
-    }
-}
-
 // The entry is as it may be, after those so far.
 fn entry_fits(s: Search, e: Entry) -> bool
     ensures { result ≡ entry_fits s e }
@@ -123,25 +99,22 @@ fn entry_fits(s: Search, e: Entry) -> bool
     !has(s.barred, e.operation.0 as usize)
 }
 
-// The entry at a place is examined.
+// The entry at a place is examined; what was found before stays.
 pub fn examine(s: Search, e: Entry, place: usize) -> Search
     ensures { result ≡ examined s e place }
 {
-    let fits = s.fits && entry_fits(s, e);
-    let own = s.own;
-    let own = or_here(own, e.terminal.0 == s.terminal.0, place, e);
-    let first = s.first;
-    let first = or_here(first, has(s.wanted, e.operation.0 as usize), place, e);
-    let terminal = s.terminal;
+    let here = Waiter {
+        place: place,
+        entry: e,
+    };
+    let is_own = e.terminal == s.terminal;
+    let is_wanted = has(s.wanted, e.operation.0 as usize);
     Search {
-        terminal: terminal,
-        wanted: s.wanted,
-        names: s.names,
-        barred: s.barred,
         taken: with(s.taken, e.terminal.0 as usize),
-        fits: fits,
-        own: own,
-        first: first,
+        fits: s.fits && entry_fits(s, e),
+        own: s.own.or(is_own.then_some(here)),
+        first: s.first.or(is_wanted.then_some(here)),
+        ..s
     }
 }
 
@@ -151,36 +124,35 @@ fn search_for(session: Session, terminal: Terminal, wanted: u64) -> Search
 {
     let operations = session.table.operations;
     let met = operations_in(session.table.positions, operations, session.set);
-    let state = session.state;
     Search {
         terminal: terminal,
         wanted: wanted,
         names: session.table.names,
-        barred: barred_in(state, met),
-        taken: taken_in(state),
+        barred: barred_in(session.running, met),
+        taken: taken_in(session.running),
         fits: true,
-        own: Found::Nobody,
-        first: Found::Nobody,
+        own: None,
+        first: None,
     }
 }
 
 // While free, no entry may have an operation that meets the set.
-fn barred_in(state: State, met: u64) -> u64
-    ensures { result ≡ barred_in state met }
+fn barred_in(running: Option<Terminal>, met: u64) -> u64
+    ensures { result ≡ barred_in running met }
 {
-    match state {
-        State::Free => met,
-        State::Running(_) => 0,
+    match running {
+        None => met,
+        Some(_) => 0,
     }
 }
 
 // While running, no entry may have the running terminal.
-fn taken_in(state: State) -> u64
-    ensures { result ≡ taken_in state }
+fn taken_in(running: Option<Terminal>) -> u64
+    ensures { result ≡ taken_in running }
 {
-    match state {
-        State::Free => 0,
-        State::Running(t) => with(0, t.0 as usize),
+    match running {
+        None => 0,
+        Some(t) => with(0, t.0 as usize),
     }
 }
 

@@ -3,7 +3,8 @@ ghost use Rattle.std.specs.Prelude.{◌≡◌, true, ◌↔◌};
 ghost use Rattle.standing.specs.Searching.{sole_in, state_fits};
 ghost use Rattle.standing.specs.Soundness.{RecordSound};
 
-use crate::records::{Session, State};
+use crate::numbers::Terminal;
+use crate::records::Session;
 use crate::searches::operations_in;
 use table::soundness::{fits, is_sound};
 
@@ -24,17 +25,12 @@ fn is_single(set: u64) -> bool
 }
 
 // While running, the terminal is below 64 and the set has one operation's positions only.
-fn state_fits(state: State, met: u64) -> bool
-    ensures { result ≡ state_fits state met }
+fn state_fits(running: Option<Terminal>, met: u64) -> bool
+    ensures { result ≡ state_fits running met }
 {
-    match state {
-        State::Free => true,
-        State::Running(t) => {
-            if 63 < t.0 {
-                return false;
-            }
-            is_single(met)
-        }
+    match running {
+        None => true,
+        Some(t) => t.0 < 64 && is_single(met),
     }
 }
 
@@ -50,9 +46,8 @@ pub fn record_is_sound(session: Session) -> bool
         return false;
     }
     let operations = table.operations;
-    let state = session.state;
     if !state_fits(
-        state,
+        session.running,
         operations_in(table.positions, operations, session.set),
     ) {
         return false;

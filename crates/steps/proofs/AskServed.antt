@@ -19,27 +19,28 @@ use Rattle.standing.specs.declared.numbers.Terminal.{Terminal}
 use Rattle.standing.specs.declared.entries.Entry.{Entry}
 use Rattle.standing.specs.declared.records.Session.{Session}
 use Rattle.standing.specs.declared.searches.Search.{Search}
-use Rattle.steps.specs.declared.replies.AskReply.TheVariants.{Granted, Delayed}
+use Rattle.std.specs.Prelude.{Result, Ok, Err, is_none, is_some}
+use Rattle.steps.specs.declared.replies.CallRefusal.{CallRefusal}
+use Rattle.steps.specs.declared.replies.CallRefusal.TheVariants.{NoOperation, Running, Waiting}
+use Rattle.steps.specs.declared.replies.Ask.TheVariants.{Granted, Delayed}
 use Rattle.steps.specs.declared.outcomes.Asked.{Asked}
+use Rattle.steps.specs.Answers.{number_of as number_told}
 use Rattle.steps.specs.Answers.Answer.{granted, delayed}
-use Rattle.standing.specs.Lists.{in_use, blank_entry}
+use Rattle.standing.specs.Lists.{in_use}
 use Rattle.standing.specs.Searching.{looking, looked}
 use Rattle.standing.specs.Soundness.{RecordSound, meets_set}
-use Rattle.steps.specs.Steps.{is_free, granting, counting, ask_step}
+use Rattle.steps.specs.Steps.{granting, counting, ask_step}
 use Rattle.steps.specs.Refusals.{Row, First, Runs, Waits}
 use Rattle.steps.specs.Refusals.Row.{no_such_operation, ask_by_the_running, ask_by_a_waiting}
-use Rattle.steps.specs.Calling.{Serves, Asks, refusing, entry_for}
+use Rattle.steps.specs.Calling.{Serves, entry_for}
 use Rattle.steps.specs.Calling.Serves.{refuses, does}
 use Rattle.steps.specs.Promises.{AskCoreIsStep}
-use Rattle.steps.specs.Values.{ask_outcome, one_more, runs_in, is_found, not_asked, ask_core, ask_known, ask_named, ask_value, AskedBy}
+use Rattle.steps.specs.Values.{outcome_of, ask_outcome, one_more, runs_in, ask_core, ask_known, ask_named, ask_value, AskedBy}
 use Rattle.steps.proofs.Pigeonhole.{room_for_one}
 use Rattle.steps.proofs.RowNumbers.{rows_left, ask_rows_left}
 use Rattle.standing.proofs.SoundLists.{length_in_use}
 use Rattle.steps.proofs.Verdicts.{runs_says, found, waits_says, Passed, Common, common}
 use Rattle.steps.proofs.Verdicts.Common.{stops, goes}
-
-not_asked_told : (s : Session) (l : List Entry) (m : ℕ) → ask_outcome l (not_asked s (length l) m) ≡ refusing s l m
-not_asked_told s l m = rw (set_out l (length l) blank_entry (le_refl (length l)))
 
 pub one_more_fits : (n : ℕ) → n < 64 → one_more n ≡ suc n
 unfolding one_more
@@ -66,7 +67,7 @@ module _ (s : Session) (l : List Entry) (e : Entry) (count : length (in_use s l)
 
   ask_core_told : ask_outcome l (ask_core s (length l) e) ≡ ask_step s l e
   unfolding ask_core ask_step
-  ask_core_told = by_test (is_free s.state && meets_set s e.operation.0)
+  ask_core_told = by_test (is_none s.running && meets_set s e.operation.0)
 
 pub ask_core_is_step : AskCoreIsStep
 ask_core_is_step s l e long d below absent =
@@ -86,11 +87,11 @@ module _ (s : Session) (l : List Entry) (t : Terminal) (n : Name) (sound : Bool)
   e = entry_for s t n
 
   -- a call with this value serves
-  abbrev Good : Asked → Type 0
-  Good v = Serves rows s l (ask_step s l e) (ask_outcome l v)
+  abbrev Good : Result Asked CallRefusal → Type 0
+  Good v = Serves rows s l (ask_step s l e) (outcome_of s l (ask_outcome l) v)
 
-  refused_by : (m : ℕ) → First rows m → Good (not_asked s (length l) m)
-  refused_by m first = refuses m first (not_asked_told s l m)
+  refused_by : (r : CallRefusal) → First rows (number_told r) → Good (Err r)
+  refused_by r first = refuses (number_told r) first refl
 
   -- past the tests of every call
   module _ (p : Passed s l t 0) where
@@ -102,10 +103,10 @@ module _ (s : Session) (l : List Entry) (t : Terminal) (n : Name) (sound : Bool)
     left row = ask_rows_left s l t.0 n row (last row)
 
     -- 13, or the step
-    past_running : known ≡ true → ¬ Runs s t.0 → (b : Bool) → is_found f.own ≡ b
-        → Good (cond b (not_asked s (length l) 13) (ask_core s (length l) e))
+    past_running : known ≡ true → ¬ Runs s t.0 → (b : Bool) → is_some f.own ≡ b
+        → Good (cond b (Err Waiting) (Ok (ask_core s (length l) e)))
     past_running there idle true waits =
-        refused_by 13
+        refused_by Waiting
         (record {
           applies = ask_by_a_waiting t.0 n refl ((waits_says s l t 0 p.long p.is_sound.record_sound).0 waits);
           none_before = λ k before row. absurd (omega (arith, before, (left row).1 there idle));
@@ -117,37 +118,38 @@ module _ (s : Session) (l : List Entry) (t : Terminal) (n : Name) (sound : Bool)
         (ask_core_is_step s l e p.long p.is_sound p.below nobody)
 
     -- 12, or on
-    past_name : known ≡ true → (b : Bool) → runs_in s.state t ≡ b
-        → Good (cond b (not_asked s (length l) 12) (cond (is_found f.own) (not_asked s (length l) 13) (ask_core s (length l) e)))
+    past_name : known ≡ true → (b : Bool) → runs_in s.running t ≡ b
+        → Good (cond b (Err Running) (cond (is_some f.own) (Err Waiting) (Ok (ask_core s (length l) e))))
     past_name there true runs =
-        refused_by 12
+        refused_by Running
         (record {
-          applies = ask_by_the_running t.0 n refl ((runs_says s.state t).0 runs);
+          applies = ask_by_the_running t.0 n refl ((runs_says s.running t).0 runs);
           none_before = λ k before row. absurd (omega (arith, before, (left row).0 there));
         })
     past_name there false idle =
-        past_running there (λ r. false≢true (sym idle ∙ (runs_says s.state t).1 r)) (is_found f.own) refl
+        past_running there (λ r. false≢true (sym idle ∙ (runs_says s.running t).1 r)) (is_some f.own) refl
 
     -- 11, or on
     named : (b : Bool) → known ≡ b
         → Good (ask_named s (length l) f t (cond b (At (record { 0 = number_of (names_of s.table) (key n) })) Nowhere))
     unfolding ask_known
     named false absent =
-        refused_by 11
+        refused_by NoOperation
         (record {
           applies = no_such_operation t.0 n refl absent;
           none_before = λ k before row. absurd (omega (arith, before, last row));
         })
-    named true there = past_name there (runs_in s.state t) refl
+    named true there = past_name there (runs_in s.running t) refl
 
   pub ask_served : Good (ask_value sound s (length l) f t n)
   unfolding ask_value found_in
-  ask_served = by_number (common s l t 0 sound says (ask t.0 n) refl)
+  ask_served = by_verdict (common s l t 0 sound says (ask t.0 n) refl)
     where
-      by_number : Common s l t 0 sound says (ask t.0 n) → Good (ask_value sound s (length l) f t n)
-      by_number (stops m some e first) = rw (e, some) (refused_by m first)
-      by_number (goes e p) = rw e (named p known refl)
+      by_verdict : Common s l t 0 sound says (ask t.0 n) → Good (ask_value sound s (length l) f t n)
+      by_verdict (stops r e first) = rw e (refused_by r first)
+      by_verdict (goes e p) = rw e (named p known refl)
 
-pub ask_asks : (s : Session) (l : List Entry) (t : Terminal) (n : Name) (f : Search) (v : Asked) → f ≡ looked 0 (looking s t) (in_use s l)
-    → AskedBy s (length l) f t n v → Asks s l t n v.reply v.session (set l v.place v.entry)
+pub ask_asks : (s : Session) (l : List Entry) (t : Terminal) (n : Name) (f : Search) (v : Result Asked CallRefusal)
+    → f ≡ looked 0 (looking s t) (in_use s l) → AskedBy s (length l) f t n v
+    → Serves (Row s l (ask t.0 n)) s l (ask_step s l (entry_for s t n)) (outcome_of s l (ask_outcome l) v)
 ask_asks s l t n f v e by = rw (by.is, e) (ask_served s l t n by.sound by.says)

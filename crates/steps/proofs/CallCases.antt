@@ -14,26 +14,26 @@ use Rattle.standing.specs.declared.records.Session.{Session}
 use Rattle.steps.specs.Answers.Answer.{opened, refused}
 use Rattle.steps.specs.Calling.{Serves, refusing}
 use Rattle.steps.specs.Calling.Serves.{refuses, does}
-use Rattle.steps.specs.Refusals.{Row, None}
+use Rattle.steps.specs.Refusals.{Row, NoRow}
 use Rattle.steps.specs.Refusals.Row.{short_list, unsound}
 use Rattle.standing.specs.Soundness.{Sound}
 use Rattle.steps.specs.Steps.{Outcome}
 
 module _ {R : ℕ → Type 0} {s : Session} {l : List Entry} {step o : Outcome} (P : Outcome → Type 0) where
   -- what holds of a refusal, and of the step where no row applies, holds of the outcome
-  pub served : Serves R s l step o → ((m : ℕ) → P (refusing s l m)) → (None R → P step) → P o
+  pub served : Serves R s l step o → ((m : ℕ) → P (refusing s l m)) → (NoRow R → P step) → P o
   served (refuses m first e) stays goes = subst P (sym e) (stays m)
   served (does none e) stays goes = subst P (sym e) (goes none)
 
   -- the answer of an opening that is not refused
-  pub opened_served : Serves R s l step o → o.answer ≡ opened → (None R → P step) → P o
+  pub opened_served : Serves R s l step o → o.answer ≡ opened → (NoRow R → P step) → P o
   opened_served (refuses m first e) is-opened goes =
       let is-refused : o.answer ≡ refused m = ap (λ (o : Outcome). o.answer) e in
       let never : ◌≡◌ {A = ℕ} 0 1 = cc in
       absurd (omega arith)
   opened_served (does none e) is-opened goes = subst P (sym e) (goes none)
 
-module _ {s : Session} {l : List Entry} {c : Call} (none : None (Row s l c)) where
+module _ {s : Session} {l : List Entry} {c : Call} (none : NoRow (Row s l c)) where
   pub long_list : 64 ≤ length l
   long_list = let long : ¬ (length l < 64) = λ short. none 8 (short_list short) in omega arith
 

@@ -8,13 +8,12 @@ use native.Mathlib.Omega.{arith}
 use Rattle.meaning.proofs.SetLaws.{below_or_not}
 use Rattle.standing.specs.declared.entries.Entry.{Entry}
 use Rattle.standing.specs.declared.records.Session.{Session}
-use Rattle.steps.specs.declared.replies.OpenReply.TheVariants.{Opened, Refused as OpenRefused}
-use Rattle.steps.specs.declared.replies.AskReply.TheVariants.{Granted, Delayed, Refused as AskRefused}
+use Rattle.std.specs.Prelude.{Ok, Err}
+use Rattle.steps.specs.declared.replies.CallRefusal.{CallRefusal}
+use Rattle.steps.specs.declared.replies.Ask.TheVariants.{Granted, Delayed}
 use Rattle.steps.specs.declared.replies.Next.{Next}
 use Rattle.steps.specs.declared.replies.Next.TheVariants.{Granted as Grants, Nobody}
-use Rattle.steps.specs.declared.replies.FinishReply.TheVariants.{Finished, Refused as FinishRefused}
-use Rattle.steps.specs.declared.replies.WithdrawReply.TheVariants.{Withdrawn, Refused as WithdrawRefused}
-use Rattle.steps.specs.Answers.{Answer, open_answer, ask_answer, next_answer, finish_answer, withdraw_answer}
+use Rattle.steps.specs.Answers.{Answer, number_of, open_answer, ask_answer, next_answer, finish_answer, withdraw_answer}
 use Rattle.steps.specs.Answers.Answer.{refused}
 use Rattle.steps.specs.Calling.{Serves}
 use Rattle.steps.specs.Calling.Serves.{refuses, does}
@@ -23,23 +22,27 @@ use Rattle.steps.specs.Promises.{WithdrawAnswerInjective, OpenDetermined, AskDet
 use Rattle.steps.specs.Promises.{WithdrawDetermined}
 use Rattle.steps.specs.Refusals.{First}
 use Rattle.steps.specs.Steps.{Outcome}
+use Rattle.steps.proofs.RefusalNumbers.{number_injective}
+
+refusals_equal : (r q : CallRefusal) → refused (number_of r) ≡ refused (number_of q) → r ≡ q
+refusals_equal r q e = number_injective r q cc
 
 pub open_answer_injective : OpenAnswerInjective
-open_answer_injective Opened Opened e = refl
-open_answer_injective Opened (OpenRefused m) e = cc
-open_answer_injective (OpenRefused m) Opened e = cc
-open_answer_injective (OpenRefused m) (OpenRefused k) e = cc
+open_answer_injective (Ok u) (Ok v) e = refl
+open_answer_injective (Ok u) (Err r) e = cc
+open_answer_injective (Err r) (Ok v) e = cc
+open_answer_injective (Err r) (Err q) e = ap Err (refusals_equal r q e)
 
 pub ask_answer_injective : AskAnswerInjective
-ask_answer_injective Granted Granted e = refl
-ask_answer_injective Granted (Delayed n) e = cc
-ask_answer_injective Granted (AskRefused m) e = cc
-ask_answer_injective (Delayed n) Granted e = cc
-ask_answer_injective (Delayed n) (Delayed k) e = cc
-ask_answer_injective (Delayed n) (AskRefused m) e = cc
-ask_answer_injective (AskRefused m) Granted e = cc
-ask_answer_injective (AskRefused m) (Delayed n) e = cc
-ask_answer_injective (AskRefused m) (AskRefused k) e = cc
+ask_answer_injective (Ok Granted) (Ok Granted) e = refl
+ask_answer_injective (Ok Granted) (Ok (Delayed n)) e = cc
+ask_answer_injective (Ok Granted) (Err r) e = cc
+ask_answer_injective (Ok (Delayed n)) (Ok Granted) e = cc
+ask_answer_injective (Ok (Delayed n)) (Ok (Delayed k)) e = cc
+ask_answer_injective (Ok (Delayed n)) (Err r) e = cc
+ask_answer_injective (Err r) (Ok Granted) e = cc
+ask_answer_injective (Err r) (Ok (Delayed n)) e = cc
+ask_answer_injective (Err r) (Err q) e = ap Err (refusals_equal r q e)
 
 next_injective : (n k : ℕ) (a b : Next) → next_answer n a ≡ next_answer k b → (n ≡ k) × (a ≡ b)
 next_injective n k (Grants g) (Grants h) e =
@@ -55,18 +58,18 @@ next_not_refused n m (Grants g) e = let never : ◌≡◌ {A = ℕ} 0 1 = cc in 
 next_not_refused n m Nobody e = let never : ◌≡◌ {A = ℕ} 0 1 = cc in omega arith
 
 pub finish_answer_injective : FinishAnswerInjective
-finish_answer_injective (Finished f) (Finished g) e =
+finish_answer_injective (Ok f) (Ok g) e =
     let (counts, nexts) = next_injective f.examined g.examined f.next g.next e in
-    λ i. Finished (record { examined = counts i; next = nexts i })
-finish_answer_injective (Finished f) (FinishRefused m) e = absurd (next_not_refused f.examined m f.next e)
-finish_answer_injective (FinishRefused m) (Finished g) e = absurd (next_not_refused g.examined m g.next (sym e))
-finish_answer_injective (FinishRefused m) (FinishRefused k) e = cc
+    λ i. Ok (record { examined = counts i; next = nexts i })
+finish_answer_injective (Ok f) (Err r) e = absurd (next_not_refused f.examined (number_of r) f.next e)
+finish_answer_injective (Err r) (Ok g) e = absurd (next_not_refused g.examined (number_of r) g.next (sym e))
+finish_answer_injective (Err r) (Err q) e = ap Err (refusals_equal r q e)
 
 pub withdraw_answer_injective : WithdrawAnswerInjective
-withdraw_answer_injective (Withdrawn p) (Withdrawn q) e = cc
-withdraw_answer_injective (Withdrawn p) (WithdrawRefused m) e = cc
-withdraw_answer_injective (WithdrawRefused m) (Withdrawn q) e = cc
-withdraw_answer_injective (WithdrawRefused m) (WithdrawRefused k) e = cc
+withdraw_answer_injective (Ok p) (Ok q) e = cc
+withdraw_answer_injective (Ok p) (Err r) e = cc
+withdraw_answer_injective (Err r) (Ok q) e = cc
+withdraw_answer_injective (Err r) (Err q) e = ap Err (refusals_equal r q e)
 
 first_one : {R : ℕ → Type 0} (m k : ℕ) → First R m → First R k → m ≡ k
 first_one m k a b =

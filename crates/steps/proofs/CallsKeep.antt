@@ -14,7 +14,7 @@ use Rattle.table.specs.declared.cells.Table.{Table}
 use Rattle.standing.specs.declared.entries.Entry.{Entry}
 use Rattle.steps.specs.Calling.{entry_for}
 use Rattle.steps.specs.Promises.{SoundAfter, OpenKeeps, OpenedSound, AskKeeps, FinishKeeps, WithdrawKeeps}
-use Rattle.steps.specs.Refusals.{OpenRow, None}
+use Rattle.steps.specs.Refusals.{OpenRow, NoRow}
 use Rattle.steps.specs.Refusals.Row.{terminal_above_63, no_such_operation, ask_by_the_running, ask_by_a_waiting}
 use Rattle.steps.specs.Refusals.OpenRow.{short_list as short-for-opening, unsound_table}
 use Rattle.steps.specs.Steps.{open_step}
@@ -22,7 +22,7 @@ use Rattle.steps.proofs.TableStable.{table_stable}
 use Rattle.steps.proofs.CallCases.{served, opened_served, long_list}
 use Rattle.steps.proofs.StepsKeep.{open_step_sound, ask_step_keeps, finish_step_keeps, withdraw_step_keeps}
 
-opens_sound : (t : Table) (l : List Entry) → None (OpenRow t l) → SoundAfter (open_step t l)
+opens_sound : (t : Table) (l : List Entry) → NoRow (OpenRow t l) → SoundAfter (open_step t l)
 opens_sound t l none =
     let long : ¬ (length l < 64) = λ short. none 8 (short-for-opening short) in
     open_step_sound t l (table_stable t (λ unsound. none 9 (unsound_table unsound)))

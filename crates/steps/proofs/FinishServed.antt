@@ -10,23 +10,26 @@ use lib.ListN.{length, get_or, length-take}
 use lib.Seq.{get_or-take}
 use Rattle.meaning.specs.Sets.{mem, union_of}
 use Rattle.meaning.specs.Calls.Call.{finish}
+use Rattle.standing.specs.declared.searches.Waiter.{Waiter}
 use Rattle.standing.specs.declared.numbers.Terminal.{Terminal}
 use Rattle.standing.specs.declared.entries.Entry.{Entry}
 use Rattle.standing.specs.declared.records.Session.{Session}
 use Rattle.standing.specs.declared.searches.Search.{Search}
-use Rattle.standing.specs.declared.searches.Found.{Found}
-use Rattle.standing.specs.declared.searches.Found.TheVariants.{Nobody, At}
+use Rattle.std.specs.Prelude.{Result, Ok, Err, Option, Some, None}
+use Rattle.steps.specs.declared.replies.CallRefusal.{CallRefusal}
+use Rattle.steps.specs.declared.replies.CallRefusal.TheVariants.{NotRunning}
 use Rattle.steps.specs.declared.outcomes.Handed.{Handed}
+use Rattle.steps.specs.Answers.{number_of}
 use Rattle.standing.specs.Lists.{blank_entry, in_use, seek, taken_out}
 use Rattle.standing.specs.Searching.{operations_by, searching, looking_next, looked}
 use Rattle.standing.specs.Soundness.{RecordSound, Sound, meets_set}
 use Rattle.steps.specs.Steps.{freed, picked, hand_on, finish_step}
 use Rattle.steps.specs.Refusals.{Row, First}
 use Rattle.steps.specs.Refusals.Row.{finish_by_another}
-use Rattle.steps.specs.Calling.{Serves, Finishes, refusing}
+use Rattle.steps.specs.Calling.{Serves}
 use Rattle.steps.specs.Calling.Serves.{refuses, does}
 use Rattle.steps.specs.Promises.{FinishCoreIsStep, LookingFindsPicked}
-use Rattle.steps.specs.Values.{finish_outcome, runs_in, not_finished, hand_core, finish_core, finish_value, FinishedBy}
+use Rattle.steps.specs.Values.{outcome_of, finish_outcome, runs_in, hand_core, finish_core, finish_value, FinishedBy}
 use Rattle.steps.proofs.AskServed.{one_more_fits}
 use Rattle.standing.proofs.Looking.{looked_first}
 use Rattle.standing.proofs.Meeting.{operation_meets}
@@ -44,16 +47,12 @@ seek_alike test test' [] same = refl
 seek_alike test test' (e ∷ es) same =
     rw (same 0 (omega arith), seek_alike test test' es (λ i l. same (suc i) (omega (arith, l))))
 
-not_finished_told : (s : Session) (l : List Entry) (m : ℕ) → finish_outcome l (not_finished s m) ≡ refusing s l m
-unfolding taken_out
-not_finished_told s l m = refl
-
 -- the line is handed on as the step says, to an entry at a place below 64
-handed_on : (s : Session) (l : List Entry) (test : Entry → Bool) (f : Found) → Finds test (in_use s l) f → length (in_use s l) ≤ 64
+handed_on : (s : Session) (l : List Entry) (test : Entry → Bool) (f : Option Waiter) → Finds test (in_use s l) f → length (in_use s l) ≤ 64
     → finish_outcome l (hand_core s f) ≡ hand_on s l f
 unfolding taken_out
-handed_on s l test Nobody finds few = refl
-handed_on s l test (At w) finds few = rw (one_more_fits w.place (omega (arith, finds.there, few)))
+handed_on s l test None finds few = refl
+handed_on s l test (Some w) finds few = rw (one_more_fits w.place (omega (arith, finds.there, few)))
 
 -- the core step is the step
 pub finish_core_is_step : FinishCoreIsStep
@@ -87,18 +86,18 @@ module _ (s : Session) (l : List Entry) (t : Terminal) where
     rows = Row s l (finish t.0)
 
     -- a call with this value serves
-    abbrev Good : Handed → Type 0
-    Good v = Serves rows s l (finish_step s l) (finish_outcome l v)
+    abbrev Good : Result Handed CallRefusal → Type 0
+    Good v = Serves rows s l (finish_step s l) (outcome_of s l (finish_outcome l) v)
 
-    refused_by : (m : ℕ) → First rows m → Good (not_finished s m)
-    refused_by m first = refuses m first (not_finished_told s l m)
+    refused_by : (r : CallRefusal) → First rows (number_of r) → Good (Err r)
+    refused_by r first = refuses (number_of r) first refl
 
     -- past the tests of every call: 14, or the step
-    past : (p : Passed s l t w) → (b : Bool) → runs_in s.state t ≡ b → Good (cond b (finish_core s f.first) (not_finished s 14))
+    past : (p : Passed s l t w) → (b : Bool) → runs_in s.running t ≡ b → Good (cond b (Ok (finish_core s f.first)) (Err NotRunning))
     past p false idle =
-        refused_by 14
+        refused_by NotRunning
         (record {
-          applies = finish_by_another t.0 refl (λ r. false≢true (sym idle ∙ (runs_says s.state t).1 r));
+          applies = finish_by_another t.0 refl (λ r. false≢true (sym idle ∙ (runs_says s.running t).1 r));
           none_before = λ k before row.
               absurd
               (omega (arith, before, (finish_rows_left s l t.0 row ((rows_left s l row).3 p.long p.is_sound p.below)).0));
@@ -106,20 +105,21 @@ module _ (s : Session) (l : List Entry) (t : Terminal) where
     past p true runs =
         does
         (λ m row.
-        (finish_rows_left s l t.0 row ((rows_left s l row).3 p.long p.is_sound p.below)).1 ((runs_says s.state t).0 runs))
-        (ap (λ (first : Found). finish_outcome l (finish_core s first)) (first_picked p.long p.is_sound)
+        (finish_rows_left s l t.0 row ((rows_left s l row).3 p.long p.is_sound p.below)).1 ((runs_says s.running t).0 runs))
+        (ap (λ (first : Option Waiter). finish_outcome l (finish_core s first)) (first_picked p.long p.is_sound)
         ∙ finish_core_is_step s l p.long p.is_sound)
 
     pub finish_served : Good (finish_value sound s (length l) f t)
     unfolding finish_value
-    finish_served = by_number (common s l t w sound says (finish t.0) refl)
+    finish_served = by_verdict (common s l t w sound says (finish t.0) refl)
       where
-        by_number : Common s l t w sound says (finish t.0) → Good (finish_value sound s (length l) f t)
-        by_number (stops m some e first) = rw (e, some) (refused_by m first)
-        by_number (goes e p) = rw e (past p (runs_in s.state t) refl)
+        by_verdict : Common s l t w sound says (finish t.0) → Good (finish_value sound s (length l) f t)
+        by_verdict (stops r e first) = rw e (refused_by r first)
+        by_verdict (goes e p) = rw e (past p (runs_in s.running t) refl)
 
-pub finish_finishes : (s : Session) (l : List Entry) (t : Terminal) (f : Search) (v : Handed) → f ≡ looked 0 (looking_next s t) (in_use s l)
-    → FinishedBy s (length l) f t v → Finishes s l t v.reply v.session (taken_out v.used v.place l)
+pub finish_finishes : (s : Session) (l : List Entry) (t : Terminal) (f : Search) (v : Result Handed CallRefusal)
+    → f ≡ looked 0 (looking_next s t) (in_use s l) → FinishedBy s (length l) f t v
+    → Serves (Row s l (finish t.0)) s l (finish_step s l) (outcome_of s l (finish_outcome l) v)
 finish_finishes s l t f v e by = rw (by.is, e) (finish_served s l t by.sound by.says)
 
 pub looking_finds_picked : LookingFindsPicked

@@ -20,5 +20,6 @@ pub mod ListChanges
 pub mod CallsLeave
 pub mod CallsBlank
 -- One outcome.
+pub mod RefusalNumbers
 pub mod CallsDetermined
 pub mod Determined

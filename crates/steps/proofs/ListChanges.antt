@@ -12,22 +12,19 @@ use lib.Seq.{length-take-le}
 use Rattle.meaning.specs.Names.{Name}
 use Rattle.meaning.specs.Calls.{Call}
 use Rattle.meaning.specs.Calls.Call.{ask}
+use Rattle.std.specs.Prelude.{Option, Some, None, is_none}
 use Rattle.standing.specs.declared.numbers.Terminal.{Terminal}
 use Rattle.standing.specs.declared.entries.Entry.{Entry}
 use Rattle.standing.specs.declared.records.Session.{Session}
-use Rattle.steps.specs.declared.replies.AskReply.{AskReply}
-use Rattle.steps.specs.declared.replies.FinishReply.{FinishReply}
-use Rattle.steps.specs.declared.replies.WithdrawReply.{WithdrawReply}
 use Rattle.standing.specs.declared.searches.Waiter.{Waiter}
-use Rattle.standing.specs.declared.searches.Found.{Found}
-use Rattle.standing.specs.declared.searches.Found.TheVariants.{Nobody, At}
+use Rattle.steps.specs.Answers.{AskReply, FinishReply, WithdrawReply}
 use Rattle.steps.specs.Calling.{Asks, Finishes, Withdraws, entry_for}
 use Rattle.standing.specs.Lists.{in_use, taken_out}
 use Rattle.standing.specs.Promises.{TakenOut}
-use Rattle.steps.specs.Refusals.{Row, None}
+use Rattle.steps.specs.Refusals.{Row, NoRow}
 use Rattle.steps.specs.Refusals.Row.{terminal_above_63, ask_by_a_waiting}
 use Rattle.standing.specs.Soundness.{meets_set}
-use Rattle.steps.specs.Steps.{Outcome, is_free, freed, ask_step, picked, hand_on, finish_step, entry_of, take_back, withdraw_step}
+use Rattle.steps.specs.Steps.{Outcome, freed, ask_step, picked, hand_on, finish_step, entry_of, take_back, withdraw_step}
 use Rattle.steps.proofs.CallCases.{served, long_list, by_soundness}
 use Rattle.standing.proofs.EntryLaws.{taken_out_says}
 use Rattle.steps.proofs.Pigeonhole.{room_for_one}
@@ -43,14 +40,14 @@ abbrev Changes : Session → List Entry → Outcome → Type 0
 Changes s l o = Change s.waiting l o.session.waiting o.list
 
 -- an ask: granted, or there is room for one more
-module _ (s : Session) (l : List Entry) (t : Terminal) (n : Name) (none : None (Row s l (ask t.0 n))) where
+module _ (s : Session) (l : List Entry) (t : Terminal) (n : Name) (none : NoRow (Row s l (ask t.0 n))) where
   room : s.waiting < 64
   room =
       let few : ¬ (63 < t.0) = λ many. none 10 (terminal_above_63 many) in
       by_soundness none (suc s.waiting) 64
       (λ sound. room_for_one s l t.0 sound (omega arith) (λ waits. none 13 (ask_by_a_waiting t.0 n refl waits)))
 
-  decided : (e : Entry) (b : Bool) → is_free s.state && meets_set s e.operation.0 ≡ b → Changes s l (ask_step s l e)
+  decided : (e : Entry) (b : Bool) → is_none s.running && meets_set s e.operation.0 ≡ b → Changes s l (ask_step s l e)
   unfolding ask_step
   decided e true met = rw met nothing
   decided e false unmet =
@@ -58,7 +55,7 @@ module _ (s : Session) (l : List Entry) (t : Terminal) (n : Name) (none : None (
       rw (unmet, all) (put_last e room)
 
 -- a finish or a withdraw: nobody is found, or the one that is found is taken out
-module _ (s : Session) (l : List Entry) {c : Call} (none : None (Row s l c)) where
+module _ (s : Session) (l : List Entry) {c : Call} (none : NoRow (Row s l c)) where
   most : s.waiting ≤ 64
   most = by_soundness none s.waiting 64 (λ sound. sound.record_sound.count_most)
 
@@ -69,13 +66,13 @@ module _ (s : Session) (l : List Entry) {c : Call} (none : None (Row s l c)) whe
       let here = (found_in_use s l fits test w first).0 in
       took_out w.place _ here most (taken_out_says s.waiting w.place l here fits)
 
-  handed_on : (f : Found) → Finds (λ e. meets_set (freed s) e.operation.0) (in_use s l) f → Changes s l (hand_on (freed s) l f)
-  handed_on Nobody nobody = nothing
-  handed_on (At w) first = found_taken_out _ w first
+  handed_on : (f : Option Waiter) → Finds (λ e. meets_set (freed s) e.operation.0) (in_use s l) f → Changes s l (hand_on (freed s) l f)
+  handed_on None nobody = nothing
+  handed_on (Some w) first = found_taken_out _ w first
 
-  taken_back : (t : ℕ) (f : Found) → Finds (λ e. eqb e.terminal.0 t) (in_use s l) f → Changes s l (take_back s l f)
-  taken_back t Nobody nobody = nothing
-  taken_back t (At w) first = found_taken_out _ w first
+  taken_back : (t : ℕ) (f : Option Waiter) → Finds (λ e. eqb e.terminal.0 t) (in_use s l) f → Changes s l (take_back s l f)
+  taken_back t None nobody = nothing
+  taken_back t (Some w) first = found_taken_out _ w first
 
   finish_step_changes : Changes s l (finish_step s l)
   unfolding finish_step picked

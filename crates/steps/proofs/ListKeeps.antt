@@ -10,10 +10,10 @@ use native.Mathlib.Omega.{arith}
 use lib.ListN.{length, get_or, set}
 use lib.Seq.{get_or-set_same, get_or-set_other}
 use Rattle.meaning.proofs.SetLaws.{below_or_not}
+use Rattle.std.specs.Prelude.{Some, None}
 use Rattle.standing.specs.declared.entries.Entry.{Entry}
 use Rattle.standing.specs.declared.numbers.Terminal.{Terminal}
 use Rattle.standing.specs.declared.records.Session.{Session}
-use Rattle.standing.specs.declared.records.State.TheVariants.{Free, Running}
 use Rattle.standing.specs.Lists.{blank_entry, taken_out}
 use Rattle.standing.specs.Soundness.{RecordSound, Sound, entry_in, terminal_in, operation_in, meets_set}
 use Rattle.standing.proofs.EntryLaws.{taken_out_says}
@@ -28,8 +28,8 @@ pub listed : (s : Session) (l : List Entry) → Sound s l → Listed s.table.nam
 listed s l sound = record { below = sound.terminals_below; differ = sound.terminals_differ; exist = sound.operations_exist }
 
 pub sound_by : (s : Session) (l : List Entry) → RecordSound s → Listed s.table.names s.waiting l
-    → ((t : Terminal) → s.state ≡ Running t → (i : ℕ) → i < s.waiting → terminal_in l i ≢ t.0)
-    → (s.state ≡ Free → (i : ℕ) → i < s.waiting → meets_set s (operation_in l i) ≡ false)
+    → ((t : Terminal) → s.running ≡ Some t → (i : ℕ) → i < s.waiting → terminal_in l i ≢ t.0)
+    → (s.running ≡ None → (i : ℕ) → i < s.waiting → meets_set s (operation_in l i) ≡ false)
     → Sound s l
 sound_by s l sound all none nobody =
     record {

@@ -11,17 +11,16 @@ use native.Mathlib.Omega.{arith}
 use lib.Dec.{eqb}
 use lib.ListN.{length, set}
 use lib.Seq.{length-take-le}
+use Rattle.std.specs.Prelude.{Option, Some, None, is_none}
+use Rattle.standing.specs.declared.searches.Waiter.{Waiter}
 use Rattle.standing.specs.declared.entries.Entry.{Entry}
 use Rattle.standing.specs.declared.records.Session.{Session}
-use Rattle.standing.specs.declared.records.State.TheVariants.{Running}
-use Rattle.standing.specs.declared.searches.Found.{Found}
-use Rattle.standing.specs.declared.searches.Found.TheVariants.{Nobody, At}
 use Rattle.steps.specs.Answers.Answer.{granted, delayed}
 use Rattle.standing.specs.Lists.{in_use, place_of, taken_out}
 use Rattle.steps.specs.Promises.{SoundAfter, OpenStepSound, AskStepKeeps, FinishStepKeeps, WithdrawStepKeeps}
 use Rattle.steps.specs.Refusals.{Runs, Waits}
 use Rattle.standing.specs.Soundness.{RecordSound, Sound, terminal_in, meets_set}
-use Rattle.steps.specs.Steps.{is_free, opening, granting, counting, freed, open_step, ask_step}
+use Rattle.steps.specs.Steps.{opening, granting, counting, freed, open_step, ask_step}
 use Rattle.steps.specs.Steps.{picked, hand_on, finish_step, entry_of, take_back, withdraw_step}
 use Rattle.standing.proofs.States.{free_not_running, same_runner}
 use Rattle.steps.proofs.Pigeonhole.{room_for_one}
@@ -66,7 +65,7 @@ module _ (s : Session) (l : List Entry) (e : Entry) (long : 64 ≤ length l) (so
       (granting_sound s e s.waiting sound.record_sound met few sound.record_sound.count_most)
       (listed s l sound) new
 
-  delay_sound : is_free s.state && meets s e ≡ false → Sound (counting s (suc s.waiting)) (set l s.waiting e)
+  delay_sound : is_none s.running && meets s e ≡ false → Sound (counting s (suc s.waiting)) (set l s.waiting e)
   delay_sound unmet =
       let room = room_for_one s l e.terminal.0 sound few waits-not in
       let each = each_put s.waiting e l (omega arith) in
@@ -75,10 +74,10 @@ module _ (s : Session) (l : List Entry) (e : Entry) (long : 64 ≤ length l) (so
       (put_listed s.waiting e l (omega arith) s.table.names (listed s l sound) few new known)
       (λ u q.
       each (λ d. d.terminal.0 ≢ u.0) (sound.none_runs u q)
-      (λ same. runs-not (q ∙ ap (λ (n : ℕ). Running (record { 0 = n })) (sym same))))
+      (λ same. runs-not (q ∙ ap (λ (n : ℕ). Some (record { 0 = n })) (sym same))))
       (λ q. each (λ d. meets s d ≡ false) (sound.nobody_permitted q) (rw q at unmet))
 
-  ask_sound : (b : Bool) → is_free s.state && meets s e ≡ b
+  ask_sound : (b : Bool) → is_none s.running && meets s e ≡ b
       → SoundAfter
       (cond b (record { answer = granted; session = granting s e s.waiting; list = l })
       (record {
@@ -86,7 +85,7 @@ module _ (s : Session) (l : List Entry) (e : Entry) (long : 64 ≤ length l) (so
         session = counting s (suc s.waiting);
         list = set l (place_of (in_use s l) e) e;
       }))
-  ask_sound true q = grant_sound ((and-eq-true_iff (is_free s.state) (meets s e)).0 q).1
+  ask_sound true q = grant_sound ((and-eq-true_iff (is_none s.running) (meets s e)).0 q).1
   ask_sound false q =
       let most = sound.record_sound.count_most in
       let all : length (in_use s l) ≡ s.waiting = length-take-le s.waiting l (omega arith) in
@@ -103,11 +102,11 @@ module _ (s : Session) (l : List Entry) (long : 64 ≤ length l) (sound : Sound 
   fewer : s.waiting - 1 ≤ 64
   fewer = omega (arith, sound.record_sound.count_most)
 
-  handed_sound : (f : Found) → Finds (meets (freed s)) (in_use s l) f → SoundAfter (hand_on (freed s) l f)
-  handed_sound Nobody none =
+  handed_sound : (f : Option Waiter) → Finds (meets (freed s)) (in_use s l) f → SoundAfter (hand_on (freed s) l f)
+  handed_sound None none =
       sound_by (freed s) l (freed_sound s sound.record_sound) (listed s l sound) (λ u q. free_not_running u q)
       (λ q. nobody_in_use s l fits (meets (freed s)) none)
-  handed_sound (At w) first =
+  handed_sound (Some w) first =
       let (here, there) = found_in_use s l fits (meets (freed s)) w first in
       let same : terminal_in l w.place ≡ w.entry.terminal.0 = ap (λ (e : Entry). e.terminal.0) there in
       let few : w.entry.terminal.0 < 64 = omega (arith, sound.terminals_below w.place here) in
@@ -117,9 +116,9 @@ module _ (s : Session) (l : List Entry) (long : 64 ≤ length l) (sound : Sound 
       (each_left s.waiting w.place l fits here (λ e. e.terminal.0 ≢ w.entry.terminal.0)
       (λ i h other q. other (sound.terminals_differ i w.place h here (q ∙ sym same))))
 
-  taken_back_sound : (t : ℕ) (f : Found) → Finds (λ e. eqb e.terminal.0 t) (in_use s l) f → SoundAfter (take_back s l f)
-  taken_back_sound t Nobody none = sound
-  taken_back_sound t (At w) first =
+  taken_back_sound : (t : ℕ) (f : Option Waiter) → Finds (λ e. eqb e.terminal.0 t) (in_use s l) f → SoundAfter (take_back s l f)
+  taken_back_sound t None none = sound
+  taken_back_sound t (Some w) first =
       let here = (found_in_use s l fits (λ e. eqb e.terminal.0 t) w first).0 in
       let each = each_left s.waiting w.place l fits here in
       sound_by (counting s (s.waiting - 1)) (taken_out s.waiting w.place l)

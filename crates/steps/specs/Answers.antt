@@ -1,15 +1,26 @@
 -- Document 01's number and values for each case of the replies.
-use Rattle.std.specs.Prelude.{ℕ}
-use Rattle.steps.specs.declared.replies.OpenReply.{OpenReply}
-use Rattle.steps.specs.declared.replies.OpenReply.TheVariants.{Opened, Refused as OpenRefused}
-use Rattle.steps.specs.declared.replies.AskReply.{AskReply}
-use Rattle.steps.specs.declared.replies.AskReply.TheVariants.{Granted, Delayed, Refused as AskRefused}
+use Rattle.std.specs.Prelude.{ℕ, Result, Ok, Err}
+use Rattle.steps.specs.declared.replies.CallRefusal.{CallRefusal}
+use Rattle.steps.specs.declared.replies.CallRefusal.TheVariants.{ShortList, Unsound, NoTerminal, NoOperation}
+use Rattle.steps.specs.declared.replies.CallRefusal.TheVariants.{Running, Waiting, NotRunning, NotWaiting}
+use Rattle.steps.specs.declared.replies.Ask.{Ask}
+use Rattle.steps.specs.declared.replies.Ask.TheVariants.{Granted, Delayed}
 use Rattle.steps.specs.declared.replies.Next.{Next}
 use Rattle.steps.specs.declared.replies.Next.TheVariants.{Granted as Grants, Nobody}
-use Rattle.steps.specs.declared.replies.FinishReply.{FinishReply}
-use Rattle.steps.specs.declared.replies.FinishReply.TheVariants.{Finished, Refused as FinishRefused}
-use Rattle.steps.specs.declared.replies.WithdrawReply.{WithdrawReply}
-use Rattle.steps.specs.declared.replies.WithdrawReply.TheVariants.{Withdrawn, Refused as WithdrawRefused}
+use Rattle.steps.specs.declared.replies.Finished.{Finished}
+
+-- what each call replies
+abbrev pub OpenReply : Type 0
+OpenReply = Result (Unit {0}) CallRefusal
+
+abbrev pub AskReply : Type 0
+AskReply = Result Ask CallRefusal
+
+abbrev pub FinishReply : Type 0
+FinishReply = Result Finished CallRefusal
+
+abbrev pub WithdrawReply : Type 0
+WithdrawReply = Result ℕ CallRefusal
 
 pub data Answer : Type 0 where
   opened : Answer
@@ -24,24 +35,35 @@ pub data Answer : Type 0 where
   -- "Numbers of refusal", 8 to 15
   refused : (number : ℕ) → Answer
 
+-- "Numbers of refusal", 8 to 15: the number of each
+abbrev pub number_of : CallRefusal → ℕ
+number_of ShortList = 8
+number_of Unsound = 9
+number_of NoTerminal = 10
+number_of NoOperation = 11
+number_of Running = 12
+number_of Waiting = 13
+number_of NotRunning = 14
+number_of NotWaiting = 15
+
 -- the cases of each call's reply
 abbrev pub open_answer : OpenReply → Answer
-open_answer Opened = opened
-open_answer (OpenRefused m) = refused m
+open_answer (Ok u) = opened
+open_answer (Err r) = refused (number_of r)
 
 abbrev pub ask_answer : AskReply → Answer
-ask_answer Granted = granted
-ask_answer (Delayed n) = delayed n
-ask_answer (AskRefused m) = refused m
+ask_answer (Ok Granted) = granted
+ask_answer (Ok (Delayed n)) = delayed n
+ask_answer (Err r) = refused (number_of r)
 
 abbrev pub next_answer : ℕ → Next → Answer
 next_answer n (Grants g) = handed n g.terminal.0 g.operation.0
 next_answer n Nobody = finished n
 
 abbrev pub finish_answer : FinishReply → Answer
-finish_answer (Finished f) = next_answer f.examined f.next
-finish_answer (FinishRefused m) = refused m
+finish_answer (Ok f) = next_answer f.examined f.next
+finish_answer (Err r) = refused (number_of r)
 
 abbrev pub withdraw_answer : WithdrawReply → Answer
-withdraw_answer (Withdrawn p) = withdrawn p
-withdraw_answer (WithdrawRefused m) = refused m
+withdraw_answer (Ok p) = withdrawn p
+withdraw_answer (Err r) = refused (number_of r)

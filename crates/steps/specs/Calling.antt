@@ -8,13 +8,10 @@ use Rattle.table.specs.declared.cells.Table.{Table}
 use Rattle.standing.specs.declared.numbers.Terminal.{Terminal}
 use Rattle.standing.specs.declared.entries.Entry.{Entry}
 use Rattle.standing.specs.declared.records.Session.{Session}
-use Rattle.steps.specs.declared.replies.OpenReply.{OpenReply}
-use Rattle.steps.specs.declared.replies.AskReply.{AskReply}
-use Rattle.steps.specs.declared.replies.FinishReply.{FinishReply}
-use Rattle.steps.specs.declared.replies.WithdrawReply.{WithdrawReply}
+use Rattle.steps.specs.Answers.{OpenReply, AskReply, FinishReply, WithdrawReply}
 use Rattle.steps.specs.Answers.{open_answer, ask_answer, finish_answer, withdraw_answer}
 use Rattle.steps.specs.Answers.Answer.{refused}
-use Rattle.steps.specs.Refusals.{Row, OpenRow, First, None}
+use Rattle.steps.specs.Refusals.{Row, OpenRow, First, NoRow}
 use Rattle.steps.specs.Steps.{Outcome, open_step, ask_step, finish_step, withdraw_step}
 
 -- "a refusal leaves record and list with every cell as before"
@@ -24,7 +21,7 @@ refusing s l m = record { answer = refused m; session = s; list = l }
 -- a call on record s and list l has outcome o: it is refused by the first row of R that applies, or none applies and it does its step
 pub data Serves (R : ℕ → Type 0) (s : Session) (l : List Entry) (step : Outcome) (o : Outcome) : Type 0 where
   refuses : (m : ℕ) → First R m → o ≡ refusing s l m → Serves R s l step o
-  does : None R → o ≡ step → Serves R s l step o
+  does : NoRow R → o ≡ step → Serves R s l step o
 
 -- the entry of an ask by terminal t for the operation of name n
 abbrev pub entry_for : Session → Terminal → Name → Entry

@@ -1,6 +1,6 @@
 -- What is promised of the steps and the calls beside the contracts (Calling.antt). Each promise is a type here; proofs/ has a proof of
 -- each, under the same name in small letters.
-use Rattle.std.specs.Prelude.{◌≡◌, List, ℕ, ◌≤◌, ◌<◌, length}
+use Rattle.std.specs.Prelude.{◌≡◌, List, ℕ, ◌≤◌, ◌<◌, length, Some}
 use Rattle.meaning.specs.Names.{Name}
 use Rattle.table.specs.Soundness.{Sound as TableSound}
 use Rattle.table.specs.declared.cells.Table.{Table}
@@ -8,11 +8,7 @@ use Rattle.standing.specs.declared.numbers.Terminal.{Terminal}
 use Rattle.standing.specs.declared.entries.Entry.{Entry}
 use Rattle.standing.specs.declared.records.Session.{Session}
 use Rattle.standing.specs.declared.searches.Waiter.{Waiter}
-use Rattle.standing.specs.declared.searches.Found.TheVariants.{At}
-use Rattle.steps.specs.declared.replies.OpenReply.{OpenReply}
-use Rattle.steps.specs.declared.replies.AskReply.{AskReply}
-use Rattle.steps.specs.declared.replies.FinishReply.{FinishReply}
-use Rattle.steps.specs.declared.replies.WithdrawReply.{WithdrawReply}
+use Rattle.steps.specs.Answers.{OpenReply, AskReply, FinishReply, WithdrawReply}
 use Rattle.steps.specs.Answers.{open_answer, ask_answer, finish_answer, withdraw_answer}
 use Rattle.steps.specs.Answers.Answer.{opened}
 use Rattle.standing.specs.Soundness.{Sound, entry_in}
@@ -55,7 +51,7 @@ FinishCoreIsStep =
 
 abbrev pub WithdrawCoreIsStep : Type 0
 WithdrawCoreIsStep =
-    (s : Session) (l : List Entry) (t : ℕ) (w : Waiter) → entry_of s l t ≡ At w
+    (s : Session) (l : List Entry) (t : ℕ) (w : Waiter) → entry_of s l t ≡ Some w
     → withdraw_outcome l (withdraw_core s w.place) ≡ withdraw_step s l t
 
 -- so they keep a sound record and list sound
@@ -70,7 +66,7 @@ FinishCoreKeeps =
 
 abbrev pub WithdrawCoreKeeps : Type 0
 WithdrawCoreKeeps =
-    (s : Session) (l : List Entry) (t : ℕ) (w : Waiter) → 64 ≤ length l → Sound s l → entry_of s l t ≡ At w
+    (s : Session) (l : List Entry) (t : ℕ) (w : Waiter) → 64 ≤ length l → Sound s l → entry_of s l t ≡ Some w
     → SoundAfter (withdraw_outcome l (withdraw_core s w.place))
 
 -- looking through the entries in use finds these entries

@@ -1,5 +1,5 @@
 -- "Numbers of refusal", 8 to 15: when each is given.
-use Rattle.std.specs.Prelude.{◌≡◌, false, List, ℕ, ◌<◌, length}
+use Rattle.std.specs.Prelude.{◌≡◌, false, List, ℕ, ◌<◌, length, Some}
 use Rattle.meaning.specs.Names.{Name, key}
 use Rattle.meaning.specs.Operations.{holds}
 use Rattle.meaning.specs.Calls.{Call}
@@ -9,7 +9,6 @@ use Rattle.table.specs.Soundness.{Sound as TableSound}
 use Rattle.table.specs.declared.cells.Table.{Table}
 use Rattle.standing.specs.declared.entries.Entry.{Entry}
 use Rattle.standing.specs.declared.records.Session.{Session}
-use Rattle.standing.specs.declared.records.State.TheVariants.{Running}
 use Rattle.standing.specs.Soundness.{Sound, terminal_in}
 
 -- whose call it is
@@ -20,7 +19,7 @@ terminal_of (withdraw t) = t
 
 -- "the running terminal" is t
 abbrev pub Runs : Session → ℕ → Type 0
-Runs s t = s.state ≡ Running (record { 0 = t })
+Runs s t = s.running ≡ Some (record { 0 = t })
 
 -- t is "a waiting terminal": it stands among the entries in use
 abbrev pub Waits : Session → List Entry → ℕ → Type 0
@@ -48,5 +47,5 @@ pub record First (R : ℕ → Type 0) (m : ℕ) : Type 0 where
   pub none_before : (k : ℕ) → k < m → ¬ R k
 
 -- no row applies
-abbrev pub None : (ℕ → Type 0) → Type 0
-None R = (m : ℕ) → ¬ R m
+abbrev pub NoRow : (ℕ → Type 0) → Type 0
+NoRow R = (m : ℕ) → ¬ R m

@@ -1,19 +1,45 @@
-// What the calls reply. A refusal has its number (document 01, "Numbers of refusal", 8 to 15).
+// What the calls reply: what was asked, or the refusal (document 01, "Numbers of refusal", 8 to 15).
+ghost use Rattle.std.specs.Prelude.{◌≡◌};
+ghost use Rattle.steps.specs.Answers.{number_of};
+
 use standing::numbers::Terminal;
 use table::numbers::Operation;
 
-#[derive(Clone, Copy)]
-pub enum OpenReply {
-    Opened,
-    Refused(u8),
+// Why a call is refused, under the paper's number of it.
+#[derive(Clone, Copy, Debug, PartialEq, Eq)]
+pub enum CallRefusal {
+    // a list of fewer than 64 entries
+    ShortList = 8,
+    // an unsound record or list; for an opening an unsound table
+    Unsound = 9,
+    // a terminal above 63
+    NoTerminal = 10,
+    // no such operation
+    NoOperation = 11,
+    // an ask by the running terminal
+    Running = 12,
+    // an ask by a waiting terminal
+    Waiting = 13,
+    // a finish by a terminal that isn't running
+    NotRunning = 14,
+    // a withdrawal by a terminal that isn't waiting
+    NotWaiting = 15,
 }
 
-// Delayed, with the number of entries ahead.
+impl CallRefusal {
+    // The number of the refusal.
+    pub fn number(self) -> u8
+        ensures { result ≡ number_of self }
+    {
+        self as u8
+    }
+}
+
+// An ask that is served: granted, or delayed, with the number of entries ahead.
 #[derive(Clone, Copy)]
-pub enum AskReply {
+pub enum Ask {
     Granted,
     Delayed(usize),
-    Refused(u8),
 }
 
 // Who runs now, and what.
@@ -37,15 +63,11 @@ pub struct Finished {
     pub next: Next,
 }
 
-#[derive(Clone, Copy)]
-pub enum FinishReply {
-    Finished(Finished),
-    Refused(u8),
-}
+// What each call replies. A withdrawal that is served replies the place that the entry had.
+pub type OpenReply = Result<(), CallRefusal>;
 
-// Withdrawn, with the place that the entry had.
-#[derive(Clone, Copy)]
-pub enum WithdrawReply {
-    Withdrawn(usize),
-    Refused(u8),
-}
+pub type AskReply = Result<Ask, CallRefusal>;
+
+pub type FinishReply = Result<Finished, CallRefusal>;
+
+pub type WithdrawReply = Result<usize, CallRefusal>;

@@ -14,7 +14,7 @@ use Rattle.wording.specs.Lines.{lf, before, lines_of}
 use Rattle.wording.specs.Writing.{Puts}
 use Rattle.wording.proofs.Pieces.{first_line}
 use Rattle.wording.proofs.Putting.{puts_nothing, puts_more, puts_as}
-use Rattle.transcripts.specs.declared.talk.Turn.{Turn}
+use Rattle.lines.specs.declared.held.Line.{Line}
 use Rattle.transcripts.specs.Transcript.{Talk}
 use Rattle.transcripts.specs.Talking.{Turned, Talked}
 
@@ -39,16 +39,16 @@ module _ {s₀ : Session} {l₀ : List Entry} {lines : List (List ℕ)} {out₀ 
 
   -- one line more
   pub one_more_told : (line : List ℕ) (rest : List (List ℕ)) → Told s₀ l₀ lines out₀ at s l (line ∷ rest) out k
-      → {r : Turn} {after : List ℕ} → Turned s l line out k r after
-      → Told s₀ l₀ lines out₀ at r.line.session r.line.list rest after r.at
+      → {n : Line} {k' : ℕ} {after : List ℕ} → Turned s l line out k n k' after
+      → Told s₀ l₀ lines out₀ at n.session n.list rest after k'
   unfolding Talk
-  one_more_told line rest t {r = r} turned =
+  one_more_told line rest t {n = n} turned =
       record {
         said = t.said ++ turned.said;
         puts = puts_more t.puts turned.puts;
         onward = λ more talk. subst (λ w. Talk s₀ l₀ lines w) (sym (append_assoc t.said turned.said more))
             (t.onward (turned.said ++ more)
-            (r.line.session, r.line.list, turned.said, more, turned.says, talk, refl));
+            (n.session, n.list, turned.said, more, turned.says, talk, refl));
       }
 
 -- ---- the places of the input

@@ -9,8 +9,8 @@ use Rattle.standing.specs.declared.entries.Entry.{Entry}
 use Rattle.standing.specs.declared.records.Session.{Session}
 use Rattle.standing.specs.Lists.{blank_entry, blanked}
 use Rattle.standing.specs.Soundness.{Sound as RecordAndList}
-use Rattle.steps.specs.declared.replies.OpenReply.{OpenReply}
-use Rattle.steps.specs.declared.replies.OpenReply.TheVariants.{Opened}
+use Rattle.std.specs.Prelude.{Ok}
+use Rattle.steps.specs.Answers.{OpenReply}
 use Rattle.steps.specs.Calling.{Opens}
 use Rattle.steps.specs.Calling.Serves.{refuses, does}
 use Rattle.steps.specs.Steps.{opening, open_step}
@@ -32,12 +32,12 @@ opened_blank s s' l' t r sound (refuses m first e) =
 opened_blank s s' l' t r sound (does none e) = (ap (λ o. o.session) e, ap (λ o. o.list) e ∙ still_blank)
 
 -- such an opening, as the contract of `open` has it
-pub opening_opens : (t : Table) → Sound t → Opens (opening t) blanks t Opened (opening t) blanks
+pub opening_opens : (t : Table) → Sound t → Opens (opening t) blanks t (Ok tt) (opening t) blanks
 unfolding open_step
 opening_opens t sound =
-    subst (λ l. Opens (opening t) blanks t Opened (opening t) l) still_blank
+    subst (λ l. Opens (opening t) blanks t (Ok tt) (opening t) l) still_blank
     (does (λ m row. (open_rows_left t blanks row).2 (rw (length-replicate 64 blank_entry) (omega arith)) sound) refl)
 
 -- the record and list that it leaves are sound
 pub opening_sound : (t : Table) → Sound t → RecordAndList (opening t) blanks
-opening_sound t sound = opened_sound (opening t) (opening t) blanks blanks t Opened (opening_opens t sound) refl
+opening_sound t sound = opened_sound (opening t) (opening t) blanks blanks t (Ok tt) (opening_opens t sound) refl

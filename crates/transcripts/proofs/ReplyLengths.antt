@@ -11,29 +11,24 @@ use Rattle.meaning.specs.Calls.Call.{ask, finish, withdraw}
 use Rattle.table.specs.Cells.{names_of}
 use Rattle.table.specs.Soundness.{Sound as TableSound}
 use Rattle.table.specs.declared.cells.Table.{Table}
+use Rattle.standing.specs.declared.searches.Waiter.{Waiter}
 use Rattle.standing.specs.declared.entries.Entry.{Entry}
 use Rattle.standing.specs.declared.records.Session.{Session}
-use Rattle.standing.specs.declared.searches.Found.{Found}
-use Rattle.standing.specs.declared.searches.Found.TheVariants.{Nobody, At}
 use Rattle.standing.specs.Lists.{in_use}
 use Rattle.standing.specs.Soundness.{Sound, meets_set}
 use Rattle.standing.proofs.Seeking.{Finds, seek_finds, found_in_use}
-use Rattle.steps.specs.declared.replies.AskReply.{AskReply}
-use Rattle.steps.specs.declared.replies.AskReply.TheVariants.{Granted, Delayed, Refused as AskRefused}
+use Rattle.std.specs.Prelude.{Ok, Err, Option, Some, None, is_none}
+use Rattle.steps.specs.declared.replies.Ask.TheVariants.{Granted, Delayed}
 use Rattle.steps.specs.declared.replies.Next.{Next}
 use Rattle.steps.specs.declared.replies.Next.TheVariants.{Granted as Grants, Nobody as NobodyNext}
-use Rattle.steps.specs.declared.replies.FinishReply.{FinishReply}
-use Rattle.steps.specs.declared.replies.FinishReply.TheVariants.{Finished, Refused as FinishRefused}
-use Rattle.steps.specs.declared.replies.WithdrawReply.{WithdrawReply}
-use Rattle.steps.specs.declared.replies.WithdrawReply.TheVariants.{Withdrawn, Refused as WithdrawRefused}
-use Rattle.steps.specs.Answers.{Answer, ask_answer, next_answer, finish_answer, withdraw_answer}
+use Rattle.steps.specs.Answers.{AskReply, FinishReply, WithdrawReply, number_of, Answer, ask_answer, next_answer, finish_answer, withdraw_answer}
 use Rattle.steps.specs.Answers.Answer.{opened, granted, delayed, finished, handed, withdrawn, refused}
 use Rattle.steps.specs.Calling.{Serves, entry_for}
 use Rattle.steps.specs.Calling.Serves.{refuses, does}
 use Rattle.steps.specs.Refusals.{Row}
 use Rattle.steps.specs.Refusals.Row.{short_list, unsound, terminal_above_63, no_such_operation, ask_by_the_running}
 use Rattle.steps.specs.Refusals.Row.{ask_by_a_waiting, finish_by_another, withdraw_by_another}
-use Rattle.steps.specs.Steps.{Outcome, is_free, freed, ask_step, picked, hand_on, finish_step, entry_of, take_back, withdraw_step}
+use Rattle.steps.specs.Steps.{Outcome, freed, ask_step, picked, hand_on, finish_step, entry_of, take_back, withdraw_step}
 use Rattle.simulation.specs.Runs.{ReplyTo, Leaves}
 use Rattle.wording.specs.Writing.{decimal}
 use Rattle.wording.proofs.Sizes.{two_digits}
@@ -73,18 +68,18 @@ module _ (s : Session) (l : List Entry) (fits : s.waiting ≤ length l) (sound :
 
   ask_small : (e : Entry) → Small (ask_step s l e).answer
   unfolding ask_step
-  ask_small e = go (is_free s.state && meets_set s e.operation.0) refl
+  ask_small e = go (is_none s.running && meets_set s e.operation.0) refl
     where
-      go : (b : Bool) → (is_free s.state && meets_set s e.operation.0) ≡ b → Small (ask_step s l e).answer
+      go : (b : Bool) → (is_none s.running && meets_set s e.operation.0) ≡ b → Small (ask_step s l e).answer
       go true p = rw p tt
       go false p =
           let ahead = length-take s.waiting l in
           let most = sound.record_sound.count_most in
           rw p (omega (arith, ahead, most))
 
-  handed_small : (test : Entry → Bool) (f : Found) → Finds test (in_use s l) f → Small (hand_on (freed s) l f).answer
-  handed_small test Nobody finds = let most = few in omega (arith, most)
-  handed_small test (At w) finds =
+  handed_small : (test : Entry → Bool) (f : Option Waiter) → Finds test (in_use s l) f → Small (hand_on (freed s) l f).answer
+  handed_small test None finds = let most = few in omega (arith, most)
+  handed_small test (Some w) finds =
       let (there, is) = found_in_use s l fits test w finds in
       let below = sound.terminals_below w.place there in
       let most = few in
@@ -96,9 +91,9 @@ module _ (s : Session) (l : List Entry) (fits : s.waiting ≤ length l) (sound :
       handed_small (λ e. meets_set (freed s) e.operation.0) (picked (freed s) l)
       (seek_finds (λ e. meets_set (freed s) e.operation.0) (in_use s l))
 
-  back_small : (test : Entry → Bool) (f : Found) → Finds test (in_use s l) f → Small (take_back s l f).answer
-  back_small test Nobody finds = omega arith
-  back_small test (At w) finds =
+  back_small : (test : Entry → Bool) (f : Option Waiter) → Finds test (in_use s l) f → Small (take_back s l f).answer
+  back_small test None finds = omega arith
+  back_small test (Some w) finds =
       let (there, is) = found_in_use s l fits test w finds in
       let most = few in
       omega (arith, there, most)
@@ -116,9 +111,9 @@ word_and_number w n h =
 
 ask_long : (r : AskReply) → Small (ask_answer r) → length (ask_line r) ≤ 88
 unfolding line_of ask_line
-ask_long Granted h = omega arith
-ask_long (Delayed n) h = let all = word_and_number delayed_word n h in omega (arith, all)
-ask_long (AskRefused m) h = let all = refused_long m h in omega (arith, all)
+ask_long (Ok Granted) h = omega arith
+ask_long (Ok (Delayed n)) h = let all = word_and_number delayed_word n h in omega (arith, all)
+ask_long (Err r) h = let all = refused_long (number_of r) h in omega (arith, all)
 
 finished_long : (t : Table) → TableSound t → (n : ℕ) (x : Next) → Small (next_answer n x) → length (finished_line t n x) ≤ 88
 unfolding finished_line
@@ -132,13 +127,13 @@ finished_long t sound n (Grants g) (h, k) =
 
 finish_long : (t : Table) → TableSound t → (r : FinishReply) → Small (finish_answer r) → length (finish_line t r) ≤ 88
 unfolding finish_line
-finish_long t sound (Finished f) h = finished_long t sound f.examined f.next h
-finish_long t sound (FinishRefused m) h = let all = refused_long m h in omega (arith, all)
+finish_long t sound (Ok f) h = finished_long t sound f.examined f.next h
+finish_long t sound (Err r) h = let all = refused_long (number_of r) h in omega (arith, all)
 
 withdraw_long : (r : WithdrawReply) → Small (withdraw_answer r) → length (withdraw_line r) ≤ 88
 unfolding withdraw_line
-withdraw_long (Withdrawn p) h = let all = word_and_number withdrawn_word p h in omega (arith, all)
-withdraw_long (WithdrawRefused m) h = let all = refused_long m h in omega (arith, all)
+withdraw_long (Ok p) h = let all = word_and_number withdrawn_word p h in omega (arith, all)
+withdraw_long (Err r) h = let all = refused_long (number_of r) h in omega (arith, all)
 
 -- the reply line of any call on a sound record and list
 pub reply_long : (s s' : Session) (l l' : List Entry) → s.waiting ≤ length l → Sound s l → (c : Call) (r : ReplyTo c)

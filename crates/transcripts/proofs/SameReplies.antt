@@ -18,14 +18,11 @@ use Rattle.table.specs.declared.cells.Table.{Table}
 use Rattle.compiler.specs.Computed.{compiled}
 use Rattle.compiler.proofs.CompiledTexts.{compiled_compiles}
 use Rattle.standing.specs.Lists.{in_use}
-use Rattle.steps.specs.declared.replies.AskReply.{AskReply}
-use Rattle.steps.specs.declared.replies.AskReply.TheVariants.{Granted, Delayed, Refused as AskRefused}
+use Rattle.std.specs.Prelude.{Ok, Err}
+use Rattle.steps.specs.declared.replies.Ask.TheVariants.{Granted, Delayed}
 use Rattle.steps.specs.declared.replies.Next.{Next}
 use Rattle.steps.specs.declared.replies.Next.TheVariants.{Granted as Grants, Nobody}
-use Rattle.steps.specs.declared.replies.FinishReply.{FinishReply}
-use Rattle.steps.specs.declared.replies.FinishReply.TheVariants.{Finished, Refused as FinishRefused}
-use Rattle.steps.specs.declared.replies.WithdrawReply.{WithdrawReply}
-use Rattle.steps.specs.declared.replies.WithdrawReply.TheVariants.{Withdrawn, Refused as WithdrawRefused}
+use Rattle.steps.specs.Answers.{AskReply, FinishReply, WithdrawReply}
 use Rattle.simulation.specs.Runs.{ReplyTo, Made, calls_of}
 use Rattle.simulation.specs.Hearing.{entry_heard, exchanged, heard, Seen}
 use Rattle.simulation.specs.Texts.{TextSeen}
@@ -63,25 +60,25 @@ exchange_said (withdrew t r) = withdraw_said r
 
 ask_said_same : (t : Table) (u : ℕ) (n : List ℕ) (r : AskReply) → ask_line r ≡ exchange_said (exchanged t (ask u n) r)
 unfolding ask_said exchange_said ask_line
-ask_said_same t u n Granted = refl
-ask_said_same t u n (Delayed m) = refl
-ask_said_same t u n (AskRefused m) = refl
+ask_said_same t u n (Ok Granted) = refl
+ask_said_same t u n (Ok (Delayed m)) = refl
+ask_said_same t u n (Err r) = refl
 
 next_said : (t : Table) (u n : ℕ) (x : Next)
-    → finished_line t n x ≡ exchange_said (exchanged t (finish u) (Finished (record { examined = n; next = x })))
+    → finished_line t n x ≡ exchange_said (exchanged t (finish u) (Ok (record { examined = n; next = x })))
 unfolding key grant_said finish_said exchange_said finished_line
 next_said t u n (Grants g) = refl
 next_said t u n Nobody = refl
 
 finish_said_same : (t : Table) (u : ℕ) (r : FinishReply) → finish_line t r ≡ exchange_said (exchanged t (finish u) r)
 unfolding finish_said exchange_said finish_line
-finish_said_same t u (Finished f) = next_said t u f.examined f.next
-finish_said_same t u (FinishRefused m) = refl
+finish_said_same t u (Ok f) = next_said t u f.examined f.next
+finish_said_same t u (Err r) = refl
 
 withdraw_said_same : (t : Table) (u : ℕ) (r : WithdrawReply) → withdraw_line r ≡ exchange_said (exchanged t (withdraw u) r)
 unfolding withdraw_said exchange_said withdraw_line
-withdraw_said_same t u (Withdrawn p) = refl
-withdraw_said_same t u (WithdrawRefused m) = refl
+withdraw_said_same t u (Ok p) = refl
+withdraw_said_same t u (Err r) = refl
 
 reply_said : (t : Table) (c : Call) (r : ReplyTo c) → reply_line t c r ≡ exchange_said (exchanged t c r)
 reply_said t (ask u n) r = ask_said_same t u n r

@@ -13,7 +13,7 @@ use Rattle.wording.specs.Writing.{Puts}
 use Rattle.wording.specs.declared.orders.Asking.{Asking}
 use Rattle.wording.specs.declared.orders.Order.{Order}
 use Rattle.wording.specs.declared.orders.Order.TheVariants.{Ask, Finish, Withdraw, Unreadable}
-use Rattle.transcripts.specs.declared.talk.Turn.{Turn}
+use Rattle.lines.specs.declared.held.Line.{Line}
 use Rattle.transcripts.specs.Replies.{refused_line, ask_line, finish_line, withdraw_line}
 use Rattle.transcripts.specs.Transcript.{Says}
 use Rattle.transcripts.specs.Talking.{Replied, Turned}
@@ -27,48 +27,48 @@ call_is : (text : List ℕ) (o p : Order) → Reads text o → o ≡ p → call_
 unfolding call_of
 call_is text o p reads e = sym reads.call ∙ ap (call_read text) e
 
-module _ {s : Session} {l : List Entry} {text out : List ℕ} {at : ℕ} {r : Turn} {after : List ℕ} (o : Order) (reads : Reads text o) where
+module _ {s : Session} {l : List Entry} {text out : List ℕ} {at : ℕ} {n : Line} {k : ℕ} {after : List ℕ} (o : Order) (reads : Reads text o) where
   pub ask_turned : (a : Asking) → o ≡ Ask a
-      → Replied ask_line (Asks s l a.terminal (take (length text - a.from) (drop a.from text))) out at r after
-      → Turned s l text out at r after
+      → Replied ask_line (Asks s l a.terminal (take (length text - a.from) (drop a.from text))) out at n k after
+      → Turned s l text out at n k after
   ask_turned a e did =
       record {
         said = ask_line did.reply;
-        says = subst (λ c. Says c s l (ask_line did.reply) r.line.session r.line.list) (sym (call_is text o (Ask a) reads e)) (
+        says = subst (λ c. Says c s l (ask_line did.reply) n.session n.list) (sym (call_is text o (Ask a) reads e)) (
           did.reply,
-          subst (λ n. Asks s l a.terminal n did.reply r.line.session r.line.list) (part_to_end text a.from) did.left,
+          subst (λ name. Asks s l a.terminal name did.reply n.session n.list) (part_to_end text a.from) did.left,
           refl,
         );
         puts = did.puts;
       }
 
-  pub finish_turned : (t : Terminal) → o ≡ Finish t → Replied (finish_line s.table) (Finishes s l t) out at r after
-      → Turned s l text out at r after
+  pub finish_turned : (t : Terminal) → o ≡ Finish t → Replied (finish_line s.table) (Finishes s l t) out at n k after
+      → Turned s l text out at n k after
   finish_turned t e did =
       record {
         said = finish_line s.table did.reply;
-        says = subst (λ c. Says c s l (finish_line s.table did.reply) r.line.session r.line.list)
+        says = subst (λ c. Says c s l (finish_line s.table did.reply) n.session n.list)
             (sym (call_is text o (Finish t) reads e))
             (did.reply, did.left, refl);
         puts = did.puts;
       }
 
-  pub withdraw_turned : (t : Terminal) → o ≡ Withdraw t → Replied withdraw_line (Withdraws s l t) out at r after
-      → Turned s l text out at r after
+  pub withdraw_turned : (t : Terminal) → o ≡ Withdraw t → Replied withdraw_line (Withdraws s l t) out at n k after
+      → Turned s l text out at n k after
   withdraw_turned t e did =
       record {
         said = withdraw_line did.reply;
-        says = subst (λ c. Says c s l (withdraw_line did.reply) r.line.session r.line.list) (sym (call_is text o (Withdraw t) reads e))
+        says = subst (λ c. Says c s l (withdraw_line did.reply) n.session n.list) (sym (call_is text o (Withdraw t) reads e))
             (did.reply, did.left, refl);
         puts = did.puts;
       }
 
-  pub unread_turned : o ≡ Unreadable → r.line.session ≡ s → r.line.list ≡ l → Puts out at (refused_line 16) r.at after
-      → Turned s l text out at r after
+  pub unread_turned : o ≡ Unreadable → n.session ≡ s → n.list ≡ l → Puts out at (refused_line 16) k after
+      → Turned s l text out at n k after
   unread_turned e same-session same-list puts =
       record {
         said = refused_line 16;
-        says = subst (λ c. Says c s l (refused_line 16) r.line.session r.line.list) (sym (call_is text o Unreadable reads e))
+        says = subst (λ c. Says c s l (refused_line 16) n.session n.list) (sym (call_is text o Unreadable reads e))
             (same-session, same-list, refl);
         puts = puts;
       }

@@ -1,19 +1,15 @@
 -- Document 01, "Program": the lines that `linerun` prints.
-use Rattle.std.specs.Prelude.{List, [], ◌∷◌, ◌++◌, ℕ, get_or}
+use Rattle.std.specs.Prelude.{List, [], ◌∷◌, ◌++◌, ℕ, get_or, Ok, Err}
 use Rattle.meaning.specs.Calls.{Call}
 use Rattle.meaning.specs.Calls.Call.{ask, finish, withdraw}
 use Rattle.text.specs.Tokens.{path_word}
 use Rattle.table.specs.Cells.{names_of}
 use Rattle.table.specs.declared.cells.Table.{Table}
-use Rattle.steps.specs.declared.replies.AskReply.{AskReply}
-use Rattle.steps.specs.declared.replies.AskReply.TheVariants.{Granted, Delayed, Refused as AskRefused}
+use Rattle.steps.specs.declared.replies.Ask.TheVariants.{Granted, Delayed}
 use Rattle.steps.specs.declared.replies.Grant.{Grant}
 use Rattle.steps.specs.declared.replies.Next.{Next}
 use Rattle.steps.specs.declared.replies.Next.TheVariants.{Granted as Grants, Nobody}
-use Rattle.steps.specs.declared.replies.FinishReply.{FinishReply}
-use Rattle.steps.specs.declared.replies.FinishReply.TheVariants.{Finished, Refused as FinishRefused}
-use Rattle.steps.specs.declared.replies.WithdrawReply.{WithdrawReply}
-use Rattle.steps.specs.declared.replies.WithdrawReply.TheVariants.{Withdrawn, Refused as WithdrawRefused}
+use Rattle.steps.specs.Answers.{AskReply, FinishReply, WithdrawReply, number_of}
 use Rattle.simulation.specs.Runs.{ReplyTo}
 use Rattle.wording.specs.Lines.{lf, space}
 use Rattle.wording.specs.Writing.{decimal}
@@ -57,9 +53,9 @@ path_line t = line_of (path_word ∷ decimal t.positions ∷ decimal t.names ∷
 
 -- "After `delayed`: entries ahead"
 unfoldable pub ask_line : AskReply → List ℕ
-ask_line Granted = line_of (granted_word ∷ [])
-ask_line (Delayed ahead) = line_of (delayed_word ∷ decimal ahead ∷ [])
-ask_line (AskRefused n) = refused_line n
+ask_line (Ok Granted) = line_of (granted_word ∷ [])
+ask_line (Ok (Delayed ahead)) = line_of (delayed_word ∷ decimal ahead ∷ [])
+ask_line (Err r) = refused_line (number_of r)
 
 -- "then the granted terminal and name", as the table has the name
 abbrev pub grant_fields : Table → Grant → List (List ℕ)
@@ -71,13 +67,13 @@ finished_line t examined (Grants g) = line_of (finished_word ∷ decimal examine
 finished_line t examined Nobody = line_of (finished_word ∷ decimal examined ∷ [])
 
 unfoldable pub finish_line : Table → FinishReply → List ℕ
-finish_line t (Finished f) = finished_line t f.examined f.next
-finish_line t (FinishRefused n) = refused_line n
+finish_line t (Ok f) = finished_line t f.examined f.next
+finish_line t (Err r) = refused_line (number_of r)
 
 -- "After `withdrawn`: place"
 unfoldable pub withdraw_line : WithdrawReply → List ℕ
-withdraw_line (Withdrawn place) = line_of (withdrawn_word ∷ decimal place ∷ [])
-withdraw_line (WithdrawRefused n) = refused_line n
+withdraw_line (Ok place) = line_of (withdrawn_word ∷ decimal place ∷ [])
+withdraw_line (Err r) = refused_line (number_of r)
 
 -- the reply line of a call, over table t
 abbrev pub reply_line : Table → (c : Call) → ReplyTo c → List ℕ

@@ -6,24 +6,24 @@ use Rattle.standing.specs.declared.entries.Entry.{Entry}
 use Rattle.standing.specs.declared.records.Session.{Session}
 use Rattle.standing.specs.Lists.{blank_entry}
 use Rattle.steps.specs.Steps.{opening}
+use Rattle.lines.specs.declared.held.Line.{Line}
 use Rattle.wording.specs.Orders.{call_of}
 use Rattle.wording.specs.Writing.{Puts}
-use Rattle.transcripts.specs.declared.talk.Turn.{Turn}
 use Rattle.transcripts.specs.Replies.{path_line}
 use Rattle.transcripts.specs.Transcript.{Says, Talk}
 
 -- a call: its reply, what it leaves, and its reply line in the output
 pub record Replied {R : Type 0} (shown : R → List ℕ) (leaves : R → Session → List Entry → Type 0) (out : List ℕ) (at : ℕ)
-    (r : Turn) (after : List ℕ) : Type 0 where
+    (line : Line) (k : ℕ) (after : List ℕ) : Type 0 where
   pub reply : R
-  pub left : leaves reply r.line.session r.line.list
-  pub puts : Puts out at (shown reply) r.at after
+  pub left : leaves reply line.session line.list
+  pub puts : Puts out at (shown reply) k after
 
 -- a line of the input
-pub record Turned (s : Session) (l : List Entry) (text out : List ℕ) (at : ℕ) (r : Turn) (after : List ℕ) : Type 0 where
+pub record Turned (s : Session) (l : List Entry) (text out : List ℕ) (at : ℕ) (line : Line) (k : ℕ) (after : List ℕ) : Type 0 where
   pub said : List ℕ
-  pub says : Says (call_of text) s l said r.line.session r.line.list
-  pub puts : Puts out at said r.at after
+  pub says : Says (call_of text) s l said line.session line.list
+  pub puts : Puts out at said k after
 
 -- some lines of the input
 pub record Talked (s : Session) (l : List Entry) (lines : List (List ℕ)) (out : List ℕ) (at k : ℕ) (after : List ℕ) : Type 0 where

@@ -7,7 +7,7 @@ ghost use Rattle.transcripts.specs.Replies.{line_of, refused_line, refused_path_
 ghost use Rattle.transcripts.specs.Replies.{finish_line, withdraw_line};
 
 use compiler::replies::Refusal;
-use steps::replies::{AskReply, FinishReply, Finished, Grant, Next, WithdrawReply};
+use steps::replies::{Ask, AskReply, FinishReply, Finished, Grant, Next, WithdrawReply};
 use table::cells::Table;
 use table::numbers::Operation;
 use wording::orders::{LF, SPACE};
@@ -52,9 +52,9 @@ pub(crate) fn put_ask(out: &mut [u8], at: usize, reply: AskReply) -> usize
     ensures { Puts out.old at (ask_line reply) result out.new }
 {
     match reply {
-        AskReply::Granted => put_bytes(out, at, b"granted\n"),
-        AskReply::Delayed(n) => put_last(out, at, b"delayed ", n as u64),
-        AskReply::Refused(n) => put_refused(out, at, n),
+        Ok(Ask::Granted) => put_bytes(out, at, b"granted\n"),
+        Ok(Ask::Delayed(n)) => put_last(out, at, b"delayed ", n as u64),
+        Err(refusal) => put_refused(out, at, refusal.number()),
     }
 }
 
@@ -98,8 +98,8 @@ pub(crate) fn put_finish(out: &mut [u8], at: usize, table: Table, reply: FinishR
     ensures { Puts out.old at (finish_line table reply) result out.new }
 {
     match reply {
-        FinishReply::Finished(finished) => put_finished(out, at, table, finished),
-        FinishReply::Refused(n) => put_refused(out, at, n),
+        Ok(finished) => put_finished(out, at, table, finished),
+        Err(refusal) => put_refused(out, at, refusal.number()),
     }
 }
 
@@ -107,7 +107,7 @@ pub(crate) fn put_withdraw(out: &mut [u8], at: usize, reply: WithdrawReply) -> u
     ensures { Puts out.old at (withdraw_line reply) result out.new }
 {
     match reply {
-        WithdrawReply::Withdrawn(place) => put_last(out, at, b"withdrawn ", place as u64),
-        WithdrawReply::Refused(n) => put_refused(out, at, n),
+        Ok(place) => put_last(out, at, b"withdrawn ", place as u64),
+        Err(refusal) => put_refused(out, at, refusal.number()),
     }
 }

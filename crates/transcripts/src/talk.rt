@@ -6,60 +6,47 @@ ghost use Rattle.transcripts.specs.Replies.{ask_line, finish_line, withdraw_line
 ghost use Rattle.transcripts.specs.Talking.{Replied, Turned, Talked};
 
 use crate::replies::{put_ask, put_finish, put_refused, put_withdraw};
-use lines::held::{Line, ask_line, finish_line, withdraw_line};
+use lines::held::Line;
 use standing::numbers::Terminal;
 use wording::orders::{LF, Order, bytes_before, read_line};
 
-// The line after a turn, and where the output goes on.
-#[derive(Clone, Copy)]
-pub(crate) struct Turn {
-    pub line: Line,
-    pub at: usize,
-}
-
-fn ask_turn(line: Line, terminal: Terminal, name: &[u8], out: &mut [u8], at: usize) -> Turn
-    ensures { Replied ask_line (Asks line.session line.list terminal name.now) out.old at result out.new }
+fn ask_turn(
+    line: &mut Line,
+    terminal: Terminal,
+    name: &[u8],
+    out: &mut [u8],
+    at: usize,
+) -> usize
+    ensures { Replied ask_line (Asks line.old.session line.old.list terminal name.now) out.old at line.new result out.new }
 {
-    let asked = ask_line(line, terminal, name);
-    let reply = asked.reply;
-    let at = put_ask(out, at, reply);
-    let line = asked.line;
-    Turn { line: line, at: at }
+    let reply = line.ask(terminal, name);
+    put_ask(out, at, reply)
 }
 
-fn finish_turn(line: Line, terminal: Terminal, out: &mut [u8], at: usize) -> Turn
-    ensures { Replied (finish_line line.session.table) (Finishes line.session line.list terminal) out.old at result out.new }
+fn finish_turn(line: &mut Line, terminal: Terminal, out: &mut [u8], at: usize) -> usize
+    ensures { Replied (finish_line line.old.session.table) (Finishes line.old.session line.old.list terminal) out.old at line.new result out.new }
 {
     let table = line.session.table;
-    let finished = finish_line(line, terminal);
-    let reply = finished.reply;
-    let at = put_finish(out, at, table, reply);
-    let line = finished.line;
-    Turn { line: line, at: at }
+    let reply = line.finish(terminal);
+    put_finish(out, at, table, reply)
 }
 
-fn withdraw_turn(line: Line, terminal: Terminal, out: &mut [u8], at: usize) -> Turn
-    ensures { Replied withdraw_line (Withdraws line.session line.list terminal) out.old at result out.new }
+fn withdraw_turn(line: &mut Line, terminal: Terminal, out: &mut [u8], at: usize) -> usize
+    ensures { Replied withdraw_line (Withdraws line.old.session line.old.list terminal) out.old at line.new result out.new }
 {
-    let withdrawn = withdraw_line(line, terminal);
-    let reply = withdrawn.reply;
-    let at = put_withdraw(out, at, reply);
-    let line = withdrawn.line;
-    Turn { line: line, at: at }
+    let reply = line.withdraw(terminal);
+    put_withdraw(out, at, reply)
 }
 
-// One line of the input.
-fn take_turn(line: Line, text: &[u8], out: &mut [u8], at: usize) -> Turn
-    ensures { Turned line.session line.list text.now out.old at result out.new }
+// One line of the input; where the output goes on.
+fn take_turn(line: &mut Line, text: &[u8], out: &mut [u8], at: usize) -> usize
+    ensures { Turned line.old.session line.old.list text.now out.old at line.new result out.new }
 {
     match read_line(text) {
         Order::Ask(asking) => ask_turn(line, asking.terminal, &text[asking.from..], out, at),
         Order::Finish(terminal) => finish_turn(line, terminal, out, at),
         Order::Withdraw(terminal) => withdraw_turn(line, terminal, out, at),
-        Order::Unreadable => {
-            let at = put_refused(out, at, 16);
-            Turn { line, at }
-        }
+        Order::Unreadable => put_refused(out, at, 16),
     }
 }
 
@@ -82,9 +69,7 @@ pub(crate) fn talk(line: Line, input: &[u8], from: usize, out: &mut [u8], at: us
     let mut i = from;
     while i < input.len() {
         let end = i + bytes_before(&input[i..], LF);
-        let turned = take_turn(line, &input[i..end], out, k);
-        line = turned.line;
-        k = turned.at;
+        k = take_turn(&mut line, &input[i..end], out, k);
         i = behind(input, end);
     }
     k

@@ -11,9 +11,9 @@ use crate::replies::{put_path, put_refused, put_refused_path};
 use crate::talk::{behind, talk};
 use compiler::readers::compile;
 use compiler::replies::Reply;
-use lines::held::{Line, open_line};
+use lines::held::Line;
 use standing::entries::blank_entry;
-use standing::records::{Session, State};
+use standing::records::Session;
 use table::cells::{Table, table_of_zeros};
 use wording::orders::{LF, bytes_before};
 
@@ -24,7 +24,7 @@ fn nothing() -> Line
     let session = Session {
         table: table_of_zeros(),
         set: 0,
-        state: State::Free,
+        running: None,
         waiting: 0,
     };
     Line {
@@ -38,8 +38,10 @@ fn opened(table: Table) -> Line
     requires { Sound table }
     ensures { (result.session ≡ opening table) × (result.list ≡ replicate 64 blank_entry) }
 {
-    let out = open_line(nothing(), table);
-    out.line
+    let mut line = nothing();
+    // A sound table is not refused.
+    let _ = line.open(table);
+    line
 }
 
 // From an accepted path on.

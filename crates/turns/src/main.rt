@@ -4,16 +4,17 @@
 #![tactic(auto)]
 
 use compiler::readers::compile;
-use compiler::replies::Reply;
 use inputs::read_full;
-use lines::held::{Line, ask_line, finish_line, open_line, withdraw_line};
+use lines::held::Line;
 use standing::entries::{Entry, blank_entry};
 use standing::numbers::Terminal;
-use standing::records::{Session, State};
+use standing::records::Session;
 use std::io;
 use std::io::Write;
-use steps::replies::{AskReply, FinishReply, Finished, Next, OpenReply, WithdrawReply};
-use table::cells::{Table, table_of_zeros};
+use steps::replies::{
+    Ask, AskReply, CallRefusal, FinishReply, Finished, Next, OpenReply, WithdrawReply,
+};
+use table::cells::table_of_zeros;
 use table::numbers::Operation;
 
 // What ends a line of a script.
@@ -41,68 +42,50 @@ fn number(text: &[u8]) -> (u64, &[u8]) {
     (value, &[])
 }
 
-fn show_open<W: Write>(out: &mut W, reply: OpenReply, shows: bool) -> io::Result<()> {
-    if !shows {
-        return Ok(());
-    }
+fn show_refused<W: Write>(out: &mut W, why: CallRefusal) -> io::Result<()> {
+    writeln!(out, "refused {}", why.number())
+}
+
+fn show_open<W: Write>(out: &mut W, reply: OpenReply) -> io::Result<()> {
     match reply {
-        OpenReply::Opened => writeln!(out, "opened"),
-        OpenReply::Refused(n) => show_refused(out, n),
+        Ok(()) => writeln!(out, "opened"),
+        Err(why) => show_refused(out, why),
     }
 }
 
-fn show_refused<W: Write>(out: &mut W, n: u8) -> io::Result<()> {
-    writeln!(out, "refused {n}")
-}
-
-fn show_ask<W: Write>(out: &mut W, reply: AskReply, shows: bool) -> io::Result<()> {
-    if !shows {
-        return Ok(());
-    }
+fn show_ask<W: Write>(out: &mut W, reply: AskReply) -> io::Result<()> {
     match reply {
-        AskReply::Granted => writeln!(out, "granted"),
-        AskReply::Delayed(n) => writeln!(out, "delayed {n}"),
-        AskReply::Refused(n) => show_refused(out, n),
+        Ok(Ask::Granted) => writeln!(out, "granted"),
+        Ok(Ask::Delayed(n)) => writeln!(out, "delayed {n}"),
+        Err(why) => show_refused(out, why),
     }
 }
 
 fn show_finished<W: Write>(out: &mut W, f: Finished) -> io::Result<()> {
     write!(out, "finished {}", f.examined)?;
-    let next = f.next;
-    match next {
-        Next::Granted(g) => write!(out, " granted {} {}", g.terminal.0, g.operation.0)?,
-        Next::Nobody => {}
+    if let Next::Granted(g) = f.next {
+        write!(out, " granted {} {}", g.terminal.0, g.operation.0)?;
     }
     writeln!(out)
 }
 
-fn show_finish<W: Write>(out: &mut W, reply: FinishReply, shows: bool) -> io::Result<()> {
-    if !shows {
-        return Ok(());
-    }
+fn show_finish<W: Write>(out: &mut W, reply: FinishReply) -> io::Result<()> {
     match reply {
-        FinishReply::Finished(f) => show_finished(out, f),
-        FinishReply::Refused(n) => show_refused(out, n),
+        Ok(f) => show_finished(out, f),
+        Err(why) => show_refused(out, why),
     }
 }
 
-fn show_withdraw<W: Write>(out: &mut W, reply: WithdrawReply, shows: bool) -> io::Result<()> {
-    if !shows {
-        return Ok(());
-    }
+fn show_withdraw<W: Write>(out: &mut W, reply: WithdrawReply) -> io::Result<()> {
     match reply {
-        WithdrawReply::Withdrawn(p) => writeln!(out, "withdrawn {p}"),
-        WithdrawReply::Refused(n) => show_refused(out, n),
+        Ok(p) => writeln!(out, "withdrawn {p}"),
+        Err(why) => show_refused(out, why),
     }
-}
-
-fn is_blank(e: Entry) -> bool {
-    e.terminal.0 == 0 && e.operation.0 == 0
 }
 
 // The entries up to the last that is not blank.
 fn show_list<W: Write>(out: &mut W, list: &[Entry]) -> io::Result<()> {
-    let Some(last) = list.iter().rposition(|e| !is_blank(*e)) else {
+    let Some(last) = list.iter().rposition(|e| *e != blank_entry()) else {
         return Ok(());
     };
     for e in &list[..=last] {
@@ -111,83 +94,23 @@ fn show_list<W: Write>(out: &mut W, list: &[Entry]) -> io::Result<()> {
     Ok(())
 }
 
-fn show_state<W: Write>(out: &mut W, state: State) -> io::Result<()> {
-    match state {
-        State::Free => write!(out, " free"),
-        State::Running(t) => write!(out, " {}", t.0),
-    }
-}
-
-fn show_line<W: Write>(out: &mut W, line: &Line, shows: bool) -> io::Result<()> {
-    if !shows {
-        return Ok(());
-    }
+fn show_line<W: Write>(out: &mut W, line: &Line) -> io::Result<()> {
     write!(out, "{}", line.session.set)?;
-    show_state(out, line.session.state)?;
+    match line.session.running {
+        None => write!(out, " free")?,
+        Some(t) => write!(out, " {}", t.0)?,
+    }
     write!(out, " {}", line.session.waiting)?;
     show_list(out, &line.list)?;
     writeln!(out)
 }
 
-fn opened<W: Write>(out: &mut W, line: Line, table: Table, shows: bool) -> io::Result<Line> {
-    let r = open_line(line, table);
-    let reply = r.reply;
-    show_open(out, reply, shows)?;
-    Ok(r.line)
-}
-
-fn compiled<W: Write>(out: &mut W, line: Line, text: &[u8], shows: bool) -> io::Result<Line> {
-    let r = compile(text);
-    let reply = r.reply;
-    match reply {
-        Reply::Accepted => {
-            let table = r.table;
-            opened(out, line, table, shows)
-        }
-        Reply::Refused(why) => {
-            if shows {
-                writeln!(out, "refused {} at {}", why.number, why.place)?;
-            }
-            Ok(line)
-        }
+fn compiled<W: Write>(out: &mut W, line: &mut Line, text: &[u8]) -> io::Result<()> {
+    let compiled = compile(text);
+    match compiled.reply {
+        Ok(()) => show_open(out, line.open(compiled.table)),
+        Err(why) => writeln!(out, "refused {} at {}", why.fault.number(), why.place),
     }
-}
-
-fn asked<W: Write>(
-    out: &mut W,
-    line: Line,
-    terminal: Terminal,
-    name: &[u8],
-    shows: bool,
-) -> io::Result<Line> {
-    let r = ask_line(line, terminal, name);
-    let reply = r.reply;
-    show_ask(out, reply, shows)?;
-    Ok(r.line)
-}
-
-fn finished<W: Write>(
-    out: &mut W,
-    line: Line,
-    terminal: Terminal,
-    shows: bool,
-) -> io::Result<Line> {
-    let r = finish_line(line, terminal);
-    let reply = r.reply;
-    show_finish(out, reply, shows)?;
-    Ok(r.line)
-}
-
-fn withdrawn<W: Write>(
-    out: &mut W,
-    line: Line,
-    terminal: Terminal,
-    shows: bool,
-) -> io::Result<Line> {
-    let r = withdraw_line(line, terminal);
-    let reply = r.reply;
-    show_withdraw(out, reply, shows)?;
-    Ok(r.line)
 }
 
 // A number cut down to a terminal's or a byte's width.
@@ -200,12 +123,11 @@ fn byte_of(n: u64) -> u8 {
 }
 
 // One cell gets a value, which need not be one that it may have. The cells are numbered as here; of a row of cells it is the one at a place.
-fn damaged(line: Line, cell: u64, at: usize, value: u64) -> Line {
-    let mut line = line;
+fn damage(line: &mut Line, cell: u64, at: usize, value: u64) {
     match cell {
         0 => line.session.set = value,
-        1 => line.session.state = State::Free,
-        2 => line.session.state = State::Running(terminal_of(value)),
+        1 => line.session.running = None,
+        2 => line.session.running = Some(terminal_of(value)),
         3 => line.session.waiting = value as usize,
         4 if at < 64 => line.list[at].terminal = terminal_of(value),
         5 if at < 64 => line.list[at].operation = Operation(byte_of(value)),
@@ -219,33 +141,30 @@ fn damaged(line: Line, cell: u64, at: usize, value: u64) -> Line {
         13 => line.session.table.names = value as usize,
         _ => {}
     }
-    line
 }
 
 // One line of the script.
-fn turn<W: Write>(out: &mut W, line: Line, s: &[u8], shows: bool) -> io::Result<Line> {
+fn turn<W: Write>(out: &mut W, line: &mut Line, s: &[u8]) -> io::Result<()> {
     let [letter, rest @ ..] = s else {
-        return Ok(line);
+        return Ok(());
     };
     let fields = behind(rest);
     let (first, rest) = number(fields);
     let terminal = terminal_of(first);
     match letter {
-        b'p' => compiled(out, line, fields, shows),
-        b'o' => opened(out, line, line.session.table, shows),
-        b'a' => asked(out, line, terminal, behind(rest), shows),
-        b'f' => finished(out, line, terminal, shows),
-        b'w' => withdrawn(out, line, terminal, shows),
-        b's' => {
-            show_line(out, &line, shows)?;
-            Ok(line)
-        }
+        b'p' => compiled(out, line, fields),
+        b'o' => show_open(out, line.open(line.session.table)),
+        b'a' => show_ask(out, line.ask(terminal, behind(rest))),
+        b'f' => show_finish(out, line.finish(terminal)),
+        b'w' => show_withdraw(out, line.withdraw(terminal)),
+        b's' => show_line(out, line),
         b'd' => {
             let (at, rest) = number(behind(rest));
             let (value, _) = number(behind(rest));
-            Ok(damaged(line, first, at as usize, value))
+            damage(line, first, at as usize, value);
+            Ok(())
         }
-        _ => Ok(line),
+        _ => Ok(()),
     }
 }
 
@@ -254,7 +173,7 @@ fn nothing() -> Line {
     let session = Session {
         table: table_of_zeros(),
         set: 0,
-        state: State::Free,
+        running: None,
         waiting: 0,
     };
     Line {
@@ -264,13 +183,13 @@ fn nothing() -> Line {
 }
 
 // The script, from nothing; what stands behind its last line is none.
-fn run<W: Write>(out: &mut W, script: &[u8], shows: bool) -> io::Result<()> {
+fn run<W: Write>(out: &mut W, script: &[u8]) -> io::Result<()> {
     let Some(end) = script.iter().rposition(|b| *b == NEWLINE) else {
         return Ok(());
     };
     let mut line = nothing();
     for text in script[..end].split(|b| *b == NEWLINE) {
-        line = turn(out, line, text, shows)?;
+        turn(out, &mut line, text)?;
     }
     Ok(())
 }
@@ -282,9 +201,14 @@ fn times_of(script: &[u8]) -> u64 {
     }
 }
 
+// All runs but the last are seen by nobody.
 fn run_all<W: Write>(out: &mut W, script: &[u8]) -> io::Result<()> {
-    for left in (1..=times_of(script)).rev() {
-        run(out, script, left == 1)?;
+    let times = times_of(script);
+    for _ in 1..times {
+        run(&mut io::sink(), script)?;
+    }
+    if 0 < times {
+        run(out, script)?;
     }
     Ok(())
 }

@@ -5,11 +5,7 @@ use mathlib.Core.List.{List}
 use Rattle.text.proofs.Determined.{both_equal}
 use Rattle.standing.specs.declared.entries.Entry.{Entry}
 use Rattle.standing.specs.declared.records.Session.{Session}
-use Rattle.steps.specs.declared.replies.OpenReply.{OpenReply}
-use Rattle.steps.specs.declared.replies.AskReply.{AskReply}
-use Rattle.steps.specs.declared.replies.FinishReply.{FinishReply}
-use Rattle.steps.specs.declared.replies.WithdrawReply.{WithdrawReply}
-use Rattle.steps.specs.Answers.{Answer, open_answer, ask_answer, finish_answer, withdraw_answer}
+use Rattle.steps.specs.Answers.{OpenReply, AskReply, FinishReply, WithdrawReply, Answer, open_answer, ask_answer, finish_answer, withdraw_answer}
 use Rattle.steps.proofs.CallsDetermined.{open_determined, ask_determined, finish_determined, withdraw_determined}
 use Rattle.compiler.specs.declared.replies.Reply.{Reply as CompileReply}
 use Rattle.compiler.specs.declared.replies.Compiled.{Compiled}

@@ -5,14 +5,14 @@ use mathlib.Core.Bool.{Bool, true, false, ◌&&◌}
 use mathlib.Core.List.{List}
 use mathlib.Core.Logic.{◌≢◌}
 use Prim.Native.Nat.{ℕ}
+use Rattle.std.specs.Prelude.{Option, Some, None, is_none}
+use Rattle.standing.specs.declared.searches.Waiter.{Waiter}
 use Rattle.standing.specs.declared.entries.Entry.{Entry}
 use Rattle.standing.specs.declared.records.Session.{Session}
-use Rattle.standing.specs.declared.searches.Found.{Found}
-use Rattle.standing.specs.declared.searches.Found.TheVariants.{Nobody, At}
 use Rattle.standing.specs.Soundness.{meets_set}
 use Rattle.steps.specs.Answers.{Answer, open_answer, ask_answer, finish_answer, withdraw_answer}
 use Rattle.steps.specs.Calling.{Serves}
-use Rattle.steps.specs.Steps.{Outcome, is_free, freed, picked, hand_on, entry_of, take_back, open_step, ask_step, finish_step, withdraw_step}
+use Rattle.steps.specs.Steps.{Outcome, freed, picked, hand_on, entry_of, take_back, open_step, ask_step, finish_step, withdraw_step}
 use Rattle.compiler.specs.declared.replies.Reply.{Reply as CompileReply}
 use Rattle.compiler.specs.declared.replies.Reply.TheVariants.{Accepted, Refused}
 use Rattle.compiler.specs.Compiling.{answer, Compiles}
@@ -30,7 +30,7 @@ use Rattle.wabbitsen.proofs.Holding.{holding_session_in}
 abbrev number_in : Outcome → ℕ
 number_in o = (reply_of o.answer).number
 
-ask_step_serves : (s : Session) (l : List Entry) (e : Entry) (t : Bool) → (is_free s.state && meets_set s e.operation.0) ≡ t
+ask_step_serves : (s : Session) (l : List Entry) (e : Entry) (t : Bool) → (is_none s.running && meets_set s e.operation.0) ≡ t
     → number_in (ask_step s l e) ≡ 0
 unfolding ask_step
 ask_step_serves s l e true is = rw is
@@ -44,17 +44,17 @@ finish_step_serves : (s : Session) (l : List Entry) → number_in (finish_step s
 unfolding finish_step
 finish_step_serves s l = handed_on (picked (freed s) l)
   where
-    handed_on : (f : Found) → number_in (hand_on (freed s) l f) ≡ 0
-    handed_on Nobody = refl
-    handed_on (At w) = refl
+    handed_on : (f : Option Waiter) → number_in (hand_on (freed s) l f) ≡ 0
+    handed_on None = refl
+    handed_on (Some w) = refl
 
 withdraw_step_serves : (s : Session) (l : List Entry) (t : ℕ) → number_in (withdraw_step s l t) ≡ 0
 unfolding withdraw_step
 withdraw_step_serves s l t = taken_back (entry_of s l t)
   where
-    taken_back : (f : Found) → number_in (take_back s l f) ≡ 0
-    taken_back Nobody = refl
-    taken_back (At w) = refl
+    taken_back : (f : Option Waiter) → number_in (take_back s l f) ≡ 0
+    taken_back None = refl
+    taken_back (Some w) = refl
 
 -- so where C's reply has a number, the call has left the session and the list
 abbrev Stands : Session → List Entry → Outcome → Type 0

@@ -1,18 +1,12 @@
 -- The contracts of the exported functions: those of `compile` and of the calls, over the record and the reply that C sees. The
 -- transcript's is `Prints`, of `transcripts`.
-use Rattle.std.specs.Prelude.{◌≡◌, cond, List, ℕ, eqb}
+use Rattle.std.specs.Prelude.{◌≡◌, cond, List, ℕ, eqb, Option, Some, None}
 use Rattle.meaning.specs.Names.{Name}
 use Rattle.table.specs.declared.cells.Table.{Table}
 use Rattle.standing.specs.declared.numbers.Terminal.{Terminal}
 use Rattle.standing.specs.declared.entries.Entry.{Entry}
 use Rattle.standing.specs.declared.records.Session.{Session}
-use Rattle.standing.specs.declared.records.State.{State}
-use Rattle.standing.specs.declared.records.State.TheVariants.{Free, Running}
-use Rattle.steps.specs.declared.replies.OpenReply.{OpenReply}
-use Rattle.steps.specs.declared.replies.AskReply.{AskReply}
-use Rattle.steps.specs.declared.replies.FinishReply.{FinishReply}
-use Rattle.steps.specs.declared.replies.WithdrawReply.{WithdrawReply}
-use Rattle.steps.specs.Answers.{Answer, open_answer, ask_answer, finish_answer, withdraw_answer}
+use Rattle.steps.specs.Answers.{OpenReply, AskReply, FinishReply, WithdrawReply, Answer, open_answer, ask_answer, finish_answer, withdraw_answer}
 use Rattle.steps.specs.Answers.Answer.{opened, granted, delayed, finished, handed, withdrawn, refused}
 use Rattle.steps.specs.Calling.{Opens, Asks, Finishes, Withdraws}
 use Rattle.compiler.specs.declared.replies.Reply.{Reply as CompileReply}
@@ -22,21 +16,21 @@ use Rattle.wabbitsen.specs.declared.records.Record.{Record}
 use Rattle.wabbitsen.specs.declared.replies.Reply.{Reply}
 
 -- "either "free" or the running terminal": free where the cell `running` is 0
-abbrev pub state_in : Record → State
-state_in b = cond (eqb b.running 0) Free (Running b.terminal)
+abbrev pub running_in : Record → Option Terminal
+running_in b = cond (eqb b.running 0) None (Some b.terminal)
 
 -- "The session record": the session that a record of C's stands for
 abbrev pub session_in : Record → Session
-session_in b = record { table = b.table; set = b.set; state = state_in b; waiting = b.waiting }
+session_in b = record { table = b.table; set = b.set; running = running_in b; waiting = b.waiting }
 
--- the two cells of a state, in a record that was b: a cell that says nothing stays as it was, and so does one that says running already
-abbrev pub terminal_cell : Record → State → Terminal
-terminal_cell b Free = b.terminal
-terminal_cell b (Running t) = t
+-- the two cells of who runs, in a record that was b: a cell that says nothing stays as it was, and so does one that says running already
+abbrev pub terminal_cell : Record → Option Terminal → Terminal
+terminal_cell b None = b.terminal
+terminal_cell b (Some t) = t
 
-abbrev pub running_cell : Record → State → ℕ
-running_cell b Free = 0
-running_cell b (Running t) = cond (eqb b.running 0) 1 b.running
+abbrev pub running_cell : Record → Option Terminal → ℕ
+running_cell b None = 0
+running_cell b (Some t) = cond (eqb b.running 0) 1 b.running
 
 -- "lent and updated by each call": the record, which was b, with session s in it
 abbrev pub holding : Record → Session → Record
@@ -44,8 +38,8 @@ holding b s = record {
   table = s.table;
   set = s.set;
   waiting = s.waiting;
-  terminal = terminal_cell b s.state;
-  running = running_cell b s.state;
+  terminal = terminal_cell b s.running;
+  running = running_cell b s.running;
 }
 
 -- a reply that names nobody

@@ -1,9 +1,9 @@
 // The session record as C sees it: the state of the line is two cells.
 ghost use Rattle.std.specs.Prelude.{◌≡◌};
-ghost use Rattle.wabbitsen.specs.Exporting.{state_in, session_in, terminal_cell, running_cell, holding as holds};
+ghost use Rattle.wabbitsen.specs.Exporting.{running_in, session_in, terminal_cell, running_cell, holding as holds};
 
 use standing::numbers::Terminal;
-use standing::records::{Session, State};
+use standing::records::Session;
 use table::cells::Table;
 
 // `running` is 0 while the line is free; the cell `terminal` then says nothing.
@@ -17,48 +17,42 @@ pub struct Record {
     pub running: u8,
 }
 
-// Free, or the running terminal.
-fn state_in(before: Record) -> State
-    ensures { result ≡ state_in before }
+// None while free, or the running terminal.
+fn running_in(before: Record) -> Option<Terminal>
+    ensures { result ≡ running_in before }
 {
     if before.running == 0 {
-        return State::Free;
+        return None;
     }
-    let terminal = before.terminal;
-    State::Running(terminal)
+    Some(before.terminal)
 }
 
 // The session that a record stands for.
 pub fn session_in(before: Record) -> Session
     ensures { result ≡ session_in before }
 {
-    let table = before.table;
-    let state = state_in(before);
     Session {
-        table: table,
+        table: before.table,
         set: before.set,
-        state: state,
+        running: running_in(before),
         waiting: before.waiting,
     }
 }
 
-// The cell `terminal` beside a state: while free it stays as it was.
-fn terminal_cell(before: Record, state: State) -> Terminal
-    ensures { result ≡ terminal_cell before state }
+// The cell `terminal` beside who runs: while free it stays as it was.
+fn terminal_cell(before: Record, running: Option<Terminal>) -> Terminal
+    ensures { result ≡ terminal_cell before running }
 {
-    match state {
-        State::Free => before.terminal,
-        State::Running(terminal) => terminal,
-    }
+    running.unwrap_or(before.terminal)
 }
 
-// The cell `running` beside a state: one that says running already stays as it was.
-fn running_cell(before: Record, state: State) -> u8
-    ensures { result ≡ running_cell before state }
+// The cell `running` beside who runs: one that says running already stays as it was.
+fn running_cell(before: Record, running: Option<Terminal>) -> u8
+    ensures { result ≡ running_cell before running }
 {
-    match state {
-        State::Free => 0,
-        State::Running(_) => {
+    match running {
+        None => 0,
+        Some(_) => {
             if before.running == 0 {
                 return 1;
             }
@@ -71,15 +65,11 @@ fn running_cell(before: Record, state: State) -> u8
 pub fn holding(before: Record, session: Session) -> Record
     ensures { result ≡ holds before session }
 {
-    let table = session.table;
-    let state = session.state;
-    let terminal = terminal_cell(before, state);
-    let running = running_cell(before, state);
     Record {
-        table: table,
+        table: session.table,
         set: session.set,
         waiting: session.waiting,
-        terminal: terminal,
-        running: running,
+        terminal: terminal_cell(before, session.running),
+        running: running_cell(before, session.running),
     }
 }

@@ -1,12 +1,13 @@
 // What a call replies to C: one struct for all five, by document 01's number and values.
 ghost use Rattle.std.specs.Prelude.{◌≡◌};
-ghost use Rattle.steps.specs.Answers.{open_answer, ask_answer, next_answer, finish_answer, withdraw_answer};
+ghost use Rattle.steps.specs.Answers.{number_of, open_answer, ask_answer, next_answer, finish_answer, withdraw_answer};
+ghost use Rattle.steps.specs.Answers.Answer.{refused};
 ghost use Rattle.compiler.specs.Compiling.{answer};
 ghost use Rattle.wabbitsen.specs.Exporting.{told, reply_of, compile_reply_of};
 
 use compiler::replies::Reply as CompileReply;
 use standing::numbers::Terminal;
-use steps::replies::{AskReply, FinishReply, Next, OpenReply, WithdrawReply};
+use steps::replies::{Ask, AskReply, CallRefusal, FinishReply, Next, OpenReply, WithdrawReply};
 use table::numbers::Operation;
 
 // `number` is the number of refusal, or 0 where the call is served. `value` is the place of a refused text, the entries ahead of a
@@ -45,12 +46,19 @@ pub fn compile_reply(reply: CompileReply) -> Reply
     }
 }
 
+// Of a call that is refused.
+fn refusing(refusal: CallRefusal) -> Reply
+    ensures { result ≡ reply_of (refused (number_of refusal)) }
+{
+    telling(0, refusal.number(), 0)
+}
+
 pub fn open_reply(reply: OpenReply) -> Reply
     ensures { result ≡ reply_of (open_answer reply) }
 {
     match reply {
-        OpenReply::Opened => telling(0, 0, 0),
-        OpenReply::Refused(number) => telling(0, number, 0),
+        Ok(()) => telling(0, 0, 0),
+        Err(refusal) => refusing(refusal),
     }
 }
 
@@ -58,9 +66,9 @@ pub fn ask_reply(reply: AskReply) -> Reply
     ensures { result ≡ reply_of (ask_answer reply) }
 {
     match reply {
-        AskReply::Granted => telling(0, 0, 1),
-        AskReply::Delayed(ahead) => telling(ahead, 0, 0),
-        AskReply::Refused(number) => telling(0, number, 0),
+        Ok(Ask::Granted) => telling(0, 0, 1),
+        Ok(Ask::Delayed(ahead)) => telling(ahead, 0, 0),
+        Err(refusal) => refusing(refusal),
     }
 }
 
@@ -88,11 +96,11 @@ pub fn finish_reply(reply: FinishReply) -> Reply
     ensures { result ≡ reply_of (finish_answer reply) }
 {
     match reply {
-        FinishReply::Finished(finished) => {
+        Ok(finished) => {
             let next = finished.next;
             next_reply(finished.examined, next)
         }
-        FinishReply::Refused(number) => telling(0, number, 0),
+        Err(refusal) => refusing(refusal),
     }
 }
 
@@ -100,7 +108,7 @@ pub fn withdraw_reply(reply: WithdrawReply) -> Reply
     ensures { result ≡ reply_of (withdraw_answer reply) }
 {
     match reply {
-        WithdrawReply::Withdrawn(place) => telling(place, 0, 0),
-        WithdrawReply::Refused(number) => telling(0, number, 0),
+        Ok(place) => telling(place, 0, 0),
+        Err(refusal) => refusing(refusal),
     }
 }

@@ -11,15 +11,18 @@ unfolding examined
 returns c =
     let a = c.args in
     let here = entry_fits a.s a.e in
-    let so_far : c.if-s.fits ≡ a.s.fits && here =
+    let so_far : c.if-s.result ≡ a.s.fits && here =
     elim c.if-s.branch [
-      | then-s w ↦ first_passes here w.if-s.true (w.fits-is ∙ w.entry_fits-fits.ensures)
-      | else-s w ↦ first_fails here w.if-s.false (w.fits-is ∙ w.if-s.false)
+      | then-s w ↦ first_passes here w.if-s.true (w.result-is ∙ w.entry_fits.ensures)
+      | else-s w ↦ first_fails here w.if-s.false (w.result-is ∙ w.if-s.false)
     ] in
     rw (
       so_far,
       c.with.ensures,
-      c.or_here-first.ensures,
-      c.has.ensures,
-      c.or_here-own.ensures,
+      c.or-2.ensures,
+      c.then_some-2.ensures,
+      c.has-is_wanted.ensures,
+      c.or.ensures,
+      c.then_some.ensures,
+      c.eq-is_own.ensures,
     )

@@ -2,10 +2,10 @@
 use Rattle.steps.specs.Values.{finish_core}
 use Rattle.steps.proofs.steps.finish_step.Goals as goal
 
-pub returns-in-At : goal.returns-in-At
+pub returns-in-Some : goal.returns-in-Some
 unfolding finish_core
-returns-in-At c = rw (c.hand_to.ensures, c.set_free-freed.ensures, c.in-At.is)
+returns-in-Some c = rw (c.hand_to.ensures, c.set_free-freed.ensures, c.in-Some.is)
 
-pub returns-in-Nobody : goal.returns-in-Nobody
+pub returns-in-None : goal.returns-in-None
 unfolding finish_core
-returns-in-Nobody c = rw (c.set_free-freed.ensures, c.in-Nobody.is)
+returns-in-None c = rw (c.set_free-freed.ensures, c.in-None.is)

@@ -4,4 +4,4 @@ use Rattle.steps.proofs.steps.withdraw_step.Goals as goal
 
 pub returns : goal.returns
 unfolding withdraw_core
-returns c = rw (c.counted-after.ensures, c.one_less.ensures)
+returns c = rw (c.counted.ensures, c.one_less.ensures)

@@ -2,10 +2,10 @@
 use Rattle.transcripts.specs.Replies.{finish_line}
 use Rattle.transcripts.proofs.replies.put_finish.Goals as goal
 
-pub returns-in-Finished : goal.returns-in-Finished
+pub returns-in-Ok : goal.returns-in-Ok
 unfolding finish_line
-returns-in-Finished c = rw c.in-Finished.is c.put_finished.ensures
+returns-in-Ok c = rw c.in-Ok.is c.put_finished.ensures
 
-pub returns-in-Refused : goal.returns-in-Refused
+pub returns-in-Err : goal.returns-in-Err
 unfolding finish_line
-returns-in-Refused c = rw c.in-Refused.is c.put_refused.ensures
+returns-in-Err c = rw (c.in-Err.is, ← c.number.ensures) c.put_refused.ensures

@@ -2,10 +2,10 @@
 use Rattle.transcripts.specs.Replies.{line_of, withdraw_line}
 use Rattle.transcripts.proofs.replies.put_withdraw.Goals as goal
 
-pub returns-in-Withdrawn : goal.returns-in-Withdrawn
+pub returns-in-Ok : goal.returns-in-Ok
 unfolding line_of withdraw_line
-returns-in-Withdrawn c = rw c.in-Withdrawn.is c.put_last.ensures
+returns-in-Ok c = rw c.in-Ok.is c.put_last.ensures
 
-pub returns-in-Refused : goal.returns-in-Refused
+pub returns-in-Err : goal.returns-in-Err
 unfolding line_of withdraw_line
-returns-in-Refused c = rw c.in-Refused.is c.put_refused.ensures
+returns-in-Err c = rw (c.in-Err.is, ← c.number.ensures) c.put_refused.ensures

@@ -21,4 +21,4 @@ returns-in-Withdraw c =
 pub returns-in-Unreadable : goal.returns-in-Unreadable
 returns-in-Unreadable c =
     unread_turned _ c.read_line.ensures
-    c.in-Unreadable.is refl refl c.put_refused-at.ensures
+    c.in-Unreadable.is refl refl c.put_refused.ensures

@@ -35,7 +35,7 @@ loop-i-preserved c =
     c.behind-i.result c.behind-i.ensures
     in
     one_more_told _ _ (rw lines at c.loop-i.invariant)
-    c.take_turn-turned.ensures
+    c.take_turn-k.ensures
 
 pub returns : goal.returns
 returns c =

@@ -4,5 +4,5 @@ use Rattle.transcripts.proofs.transcript.opened.Goals as goal
 
 pub returns : goal.returns
 returns c =
-    opened_blank _ _ _ _ c.open_line-out.result.reply c.requires
-    (rw c.nothing.ensures at c.open_line-out.ensures)
+    opened_blank _ _ _ _ c.«open».result c.requires
+    (rw c.nothing-line.ensures at c.«open».ensures)
