@@ -108,9 +108,10 @@ fn starry(s: &[u8], p: Reading) -> Reading
     if used == 0 {
         return p;
     }
+    let part = star_part(p.part);
     Reading {
         left: p.left - used,
-        part: star_part(p.part),
+        part,
     }
 }
 
@@ -232,7 +233,7 @@ fn end(text: &[u8], e: Reading) -> Result<Table, Refusal>
 }
 
 // The table of a text's path, or why the text is refused.
-
+#[tactic(auto, using(crate::proofs::Wholes::compile_long))]
 fn read(text: &[u8]) -> Result<Table, Refusal>
     ensures { made result ≡ compiled text.now }
 {

@@ -21,7 +21,13 @@ pub conclude-requires : goal.conclude-requires
 conclude-requires c = omega (arith, rest_fits c.args.text.now (read_so c.args.e) refl _ c.next-r.ensures c.requires.0, c.requires.1)
 
 pub overflow_add-result : goal.overflow_add-result
-overflow_add-result c = omega (arith, end_starts c.args.text.now (read_so c.args.e) refl _ c.next-r.ensures c.requires.0, c.requires.1)
+overflow_add-result c =
+    omega (
+      arith,
+      end_starts c.args.text.now (read_so c.args.e) refl _ c.next-r.ensures c.requires.0,
+      end_fits c.args.text.now (read_so c.args.e) refl _ c.next-r.ensures c.requires.0,
+      c.requires.1,
+    )
 
 pub returns-in-End : goal.returns-in-End
 returns-in-End c = ended_ends c.args.text.now (read_so c.args.e) refl _ c.next-r.ensures c.in-End.is _ c.conclude.ensures

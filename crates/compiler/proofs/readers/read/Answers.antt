@@ -5,14 +5,11 @@ use Rattle.text.specs.declared.tokens.Token.TheVariants.{Path}
 use Rattle.compiler.proofs.Arms.{other_than}
 use Rattle.compiler.proofs.FactorPaths.{used_fits}
 use Rattle.compiler.proofs.Refusing.{refuses_by, refuses_fault}
-use Rattle.compiler.proofs.Wholes.{compile_long, compile_not_path, starts_with_path}
+use Rattle.compiler.proofs.Wholes.{compile_not_path, starts_with_path}
 use Rattle.text.proofs.FaultNumbers.{fault_some}
 use Rattle.compiler.specs.Reading.{read_so}
 use Rattle.compiler.proofs.Concluding.{ended_inside}
 use Rattle.compiler.proofs.readers.read.Goals as goal
-
-pub returns-then-text-gt4096 : goal.returns-then-text-gt4096
-returns-then-text-gt4096 c = compile_long _ c.if-text-gt4096.true
 
 pub slice_bounds-expression-count : goal.slice_bounds-expression-count
 slice_bounds-expression-count c = used_fits _ _ c.next-r.ensures

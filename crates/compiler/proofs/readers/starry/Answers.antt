@@ -15,4 +15,4 @@ returns-then-used-eq0 c = starry_plain _ _ _ refl c.requires c.stars-used.ensure
 pub returns : goal.returns
 returns c =
     starry_starred _ _ _ refl c.requires c.stars-used.ensures _ c.if-used-eq0.false
-    (ap (λ (p : Part). left_with (c.args.p.left - c.stars-used.result) p) c.star_part.ensures)
+    (ap (λ (p : Part). left_with (c.args.p.left - c.stars-used.result) p) c.star_part-part.ensures)
