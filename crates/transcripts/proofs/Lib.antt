@@ -1,3 +1,4 @@
+pub mod Cuts
 pub mod Existing
 pub mod Fitting
 pub mod Lengths

@@ -1,5 +1,4 @@
 // The lines behind the path, one after the other.
-ghost use Rattle.std.specs.Prelude.{◌≡◌, ◌+◌, min, length, drop};
 ghost use Rattle.steps.specs.Calling.{Asks, Finishes, Withdraws};
 ghost use Rattle.wording.specs.Lines.{lines_of};
 ghost use Rattle.transcripts.specs.Replies.{ask_line, finish_line, withdraw_line};
@@ -50,27 +49,14 @@ fn take_turn(line: &mut Line, text: &[u8], out: &mut [u8], at: usize) -> usize
     }
 }
 
-// The place behind a line that ends at `end`: behind its LF, if it has one.
-pub(crate) fn behind(input: &[u8], end: usize) -> usize
-    ensures { result ≡ min (end + 1) (length input.now) }
-{
-    if end < input.len() {
-        return end + 1;
-    }
-    input.len()
-}
-
-// All lines from a place of the input on.
-pub(crate) fn talk(line: Line, input: &[u8], from: usize, out: &mut [u8], at: usize) -> usize
-    ensures { Talked line.session line.list (lines_of (drop from input.now)) out.old at result out.new }
+// All of some lines.
+pub(crate) fn talk(line: Line, lines: &[u8], out: &mut [u8], at: usize) -> usize
+    ensures { Talked line.session line.list (lines_of lines.now) out.old at result out.new }
 {
     let mut line = line;
     let mut k = at.min(out.len());
-    let mut i = from;
-    while i < input.len() {
-        let end = i + bytes_before(&input[i..], LF);
-        k = take_turn(&mut line, &input[i..end], out, k);
-        i = behind(input, end);
+    for text in lines.split_inclusive(|b| *b == LF) {
+        k = take_turn(&mut line, &text[..bytes_before(text, LF)], out, k);
     }
     k
 }

@@ -1,5 +1,5 @@
 // The whole output.
-ghost use Rattle.std.specs.Prelude.{◌≡◌, drop, replicate};
+ghost use Rattle.std.specs.Prelude.{◌≡◌, ◌+◌, min, length, replicate};
 ghost use Rattle.table.specs.Soundness.{Sound};
 ghost use Rattle.standing.specs.Lists.{blank_entry};
 ghost use Rattle.steps.specs.Steps.{opening};
@@ -8,7 +8,7 @@ ghost use Rattle.transcripts.specs.Talking.{Ran};
 ghost use Rattle.transcripts.specs.Transcript.{Prints};
 
 use crate::replies::{put_path, put_refused, put_refused_path};
-use crate::talk::{behind, talk};
+use crate::talk::talk;
 use compiler::readers::compile;
 use compiler::replies::Reply;
 use lines::held::Line;
@@ -45,12 +45,22 @@ fn opened(table: Table) -> Line
 }
 
 // From an accepted path on.
-fn run(table: Table, input: &[u8], from: usize, out: &mut [u8]) -> usize
+fn run(table: Table, lines: &[u8], out: &mut [u8]) -> usize
     requires { Sound table }
-    ensures { Ran table (lines_of (drop from input.now)) out.old result out.new }
+    ensures { Ran table (lines_of lines.now) out.old result out.new }
 {
     let at = put_path(out, 0, table);
-    talk(opened(table), input, from, out, at)
+    talk(opened(table), lines, out, at)
+}
+
+// The place behind a line that ends at `end`: behind its LF, if it has one.
+fn behind(input: &[u8], end: usize) -> usize
+    ensures { result ≡ min (end + 1) (length input.now) }
+{
+    if end < input.len() {
+        return end + 1;
+    }
+    input.len()
 }
 
 // What `linerun` prints of an input, as far as the output goes.
@@ -66,7 +76,7 @@ pub fn transcript(input: &[u8], out: &mut [u8]) -> usize
     match reply {
         Reply::Accepted => {
             let table = compiled.table;
-            run(table, input, behind(input, end), out)
+            run(table, &input[behind(input, end)..], out)
         }
         Reply::Refused(why) => put_refused_path(out, 0, why),
     }

@@ -1,11 +1,17 @@
 -- What `position` and `==` of slices answer, in the words of the lines.
-use Rattle.std.proofs.Common.{◌≡◌, ℕ, Bool, true, false, cond, not, ◌&&◌, List, [], ◌∷◌, Some, None, length, ltb, ◌≤◌, refl, ap, ◌∙◌, arith}
+use Rattle.std.proofs.Common.{◌≡◌, ℕ, Bool, true, false, cond, not, ◌&&◌, List, [], ◌∷◌, Some, None, length, ltb, ◌≤◌, refl, sym, ap, ◌∙◌, arith}
 use Rattle.std.proofs.lemmas.Grind.{common_steps}
 use Rattle.std.specs.Prelude.{eqb}
 use Rattle.std.specs.Option.{unwrap_or}
-use Rattle.std.specs.List.{position, position_or_len, prefix_len}
+use Rattle.std.specs.List.{position, position_or_len, prefix_len, IsFirstMatchOrLen}
 use Rattle.std.specs.Str.{bytes_eq}
-use Rattle.std.proofs.lemmas.List.Sums.{prefix_len-le-length}
+use Rattle.std.proofs.lemmas.List.Sums.{prefix_len-le-length, position_or_len_is}
+use Rattle.std.proofs.lemmas.Bool.{eq-eqb}
+use mathlib.Core.Bool.{false≢true}
+use mathlib.Core.Logic.{⊎_elim}
+use native.Mathlib.Nat.{le_refl}
+use lib.ListN.{get_or-eq_default}
+use Rattle.meaning.proofs.SetLaws.{below_or_not}
 use Rattle.meaning.specs.Names.{same}
 use Rattle.text.specs.Tokens.{span}
 use Rattle.wording.specs.Lines.{before}
@@ -34,3 +40,19 @@ same_bytes [] [] = refl
 same_bytes [] (b ∷ t) = refl
 same_bytes (a ∷ s) [] = refl
 same_bytes (a ∷ s) (b ∷ t) = ap (λ r. eqb a b && r) (same_bytes s t)
+
+-- where a slice is cut: at the first b, or at the end
+pub first_match : (b : ℕ) (s : List ℕ) (i : ℕ) → IsFirstMatchOrLen (λ x. eqb x b) s i → i ≡ before b s
+first_match b s i found =
+    sym (position_or_len_is (λ x. eqb x b) s i 0 within (λ k h. found.0 k 0 (omega arith) h) (λ h. found.1 h 0))
+    ∙ span_is (λ x. not (eqb x b)) s
+  where
+    -- behind the end `found` would say of b itself that it is another byte
+    within : i ≤ length s
+    within =
+        ⊎_elim
+        (λ past.
+        let other = found.0 (length s) b (omega arith) past in
+        absurd (false≢true (sym (rw (get_or-eq_default s b (le_refl (length s))) at other) ∙ eq-eqb b b refl)))
+        (λ h. h)
+        (below_or_not (length s) i)

@@ -1,13 +1,9 @@
--- `talk::talk` meets its contract. The invariant: what is printed so far is told of the lines before place i (`Told`).
-use Prim.Native.Nat.{◌-◌}
-use lib.ListN.{length, drop}
+-- `talk::talk` meets its contract. The invariant: what is printed so far is told of the lines that were cut off (`Told`).
+use Rattle.std.specs.Slice.Iter.{split_inclusive_rest}
 use Rattle.wording.specs.Lines.{lines_of}
 use Rattle.transcripts.proofs.Onward.{Told}
 use Rattle.transcripts.proofs.talk.talk.Given as goal
 
-abbrev pub invariant-loop-i : goal.invariant-loop-i
-invariant-loop-i l =
-    Told l.initial.line.session l.initial.line.list (lines_of (drop l.from l.input)) l.initial.out l.at l.line.session l.line.list (lines_of (drop l.i l.input)) l.out l.k
-
-abbrev pub decreases-loop-i : goal.decreases-loop-i
-decreases-loop-i l = length l.input - l.i
+abbrev pub invariant-loop-text : goal.invariant-loop-text
+invariant-loop-text l =
+    Told l.initial.line.session l.initial.line.list (lines_of l.lines) l.initial.out l.at l.line.session l.line.list (lines_of (split_inclusive_rest l.text-iterator)) l.out l.k

@@ -2,6 +2,7 @@
 use mathlib.Core.Path.{sym}
 use native.Mathlib.Omega.{arith}
 use lib.Seq.{length-take-le}
+use borrow.Author.Rules.{part_to_end}
 use Rattle.text.proofs.Spans.{span_within}
 use Rattle.transcripts.proofs.Wholes.{table_sound, prints_accepted, prints_refused}
 use Rattle.transcripts.proofs.transcript.transcript.Goals as goal
@@ -22,7 +23,7 @@ returns-in-Accepted c =
     c.compile-compiled.ensures
     (omega arith)
     c.in-Accepted.is _ c.behind.ensures
-    c.run.ensures
+    (rw (part_to_end c.args.input.now c.behind.result) at c.run.ensures)
 
 pub returns-in-Refused : goal.returns-in-Refused
 returns-in-Refused c =
