@@ -3,7 +3,6 @@
 #![tactic(auto)]
 
 use compiler::readers::compile;
-use compiler::replies::Reply;
 use inputs::read_full;
 use std::io::Write;
 use std::{fmt, io};
@@ -82,8 +81,8 @@ fn print_table<W: Write>(out: &mut W, table: &Table) -> io::Result<()> {
 fn show<W: Write>(out: &mut W, text: &[u8]) -> io::Result<()> {
     let r = compile(text);
     match r.reply {
-        Reply::Accepted => print_table(out, &r.table),
-        Reply::Refused(why) => writeln!(out, "refused {} at {}", why.number, why.place),
+        Ok(()) => print_table(out, &r.table),
+        Err(why) => writeln!(out, "refused {} at {}", why.fault.number(), why.place),
     }
 }
 
