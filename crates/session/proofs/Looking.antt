@@ -1,12 +1,11 @@
--- Looking through the first n entries, by turns: at turn i the search found so far, taken on through the entries from i on, is
+-- Looking through some entries, by turns: at turn i the search found so far, taken on through the entries from i on, is
 -- the search taken through all of them.
 use mathlib.Core.Path.{◌≡◌, refl, sym, ◌∙◌, ap}
-use Prim.Native.Nat.{ℕ, suc, ◌+◌, ◌≤◌, ◌<◌, min}
+use Prim.Native.Nat.{ℕ, suc, ◌+◌, ◌≤◌, ◌<◌}
 use native.Mathlib.Numerals.{add-one}
-use native.Mathlib.Omega.{arith}
 use mathlib.Core.List.{List, [], ◌∷◌}
-use lib.ListN.{length, get_or, take, drop, length-take, drop_of_length-le}
-use lib.Seq.{drop-cons, get_or-take}
+use lib.ListN.{length, get_or, drop, drop_of_length-le}
+use lib.Seq.{drop-cons}
 use Rattle.standing.specs.declared.entries.Entry.{Entry}
 use Rattle.standing.specs.declared.searches.Search.{Search}
 use Rattle.standing.specs.Lists.{blank_entry}
@@ -22,25 +21,19 @@ looked_out : (p : ℕ) (s : Search) → looked p s [] ≡ s
 unfolding looked
 looked_out p s = refl
 
-module _ (ys : List Entry) (n : ℕ) (search : Search) where
+module _ (ys : List Entry) (search : Search) where
   -- what the loop keeps: i entries are passed, and s is found so far
   abbrev pub Sofar : ℕ → Search → Type 0
-  Sofar i s = looked i s (drop i (take n ys)) ≡ looked 0 search (take n ys)
+  Sofar i s = looked i s (drop i ys) ≡ looked 0 search ys
 
-  pub starts : Sofar 0 search
-  starts = refl
-
-  pub goes_on : (i : ℕ) (s : Search) → i < min n (length ys) → Sofar i s → Sofar (i + 1) (examined s (get_or ys i blank_entry) i)
+  pub goes_on : (i : ℕ) (s : Search) → i < length ys → Sofar i s → Sofar (i + 1) (examined s (get_or ys i blank_entry) i)
   goes_on i s l so =
-      ap (λ (k : ℕ). looked k next (drop k (take n ys))) (add-one i)
-      ∙ sym (looked_on i s (get_or ys i blank_entry) (drop (suc i) (take n ys)))
-      ∙ ap (λ (e : Entry). looked i s (e ∷ drop (suc i) (take n ys))) (sym (get_or-take n ys i blank_entry (omega (arith, l))))
-      ∙ ap (looked i s) (sym (drop-cons (take n ys) i blank_entry (omega (arith, l, length-take n ys)))) ∙ so
+      ap (λ (k : ℕ). looked k next (drop k ys)) (add-one i)
+      ∙ sym (looked_on i s (get_or ys i blank_entry) (drop (suc i) ys))
+      ∙ ap (looked i s) (sym (drop-cons ys i blank_entry l)) ∙ so
     where
       next : Search
       next = examined s (get_or ys i blank_entry) i
 
-  pub ends_as : (i : ℕ) (s : Search) → min n (length ys) ≤ i → Sofar i s → s ≡ looked 0 search (take n ys)
-  ends_as i s l so =
-      sym (looked_out i s)
-      ∙ ap (looked i s) (sym (drop_of_length-le (take n ys) {i = i} (omega (arith, l, length-take n ys)))) ∙ so
+  pub ends_as : (i : ℕ) (s : Search) → length ys ≤ i → Sofar i s → s ≡ looked 0 search ys
+  ends_as i s l so = sym (looked_out i s) ∙ ap (looked i s) (sym (drop_of_length-le ys {i = i} l)) ∙ so

@@ -4,19 +4,16 @@ ghost use Rattle.standing.specs.Lists.{taken_out, blanked};
 ghost use Rattle.standing.specs.Searching.{looked};
 
 use standing::entries::{Entry, blank_entry};
-use standing::numbers::least;
 use standing::searches::{Search, examine};
 
 // The first n entries, examined one after the other; fewer if there are fewer.
 pub fn find(list: &[Entry], n: usize, search: Search) -> Search
     ensures { result ≡ looked 0 search (take n list.now) }
 {
-    let end = least(n, list.len());
+    let used = &list[..n.min(list.len())];
     let mut found = search;
-    let mut i: usize = 0;
-    while i < end {
-        found = examine(found, list[i], i);
-        i += 1;
+    for (i, entry) in used.iter().enumerate() {
+        found = examine(found, *entry, i);
     }
     found
 }
@@ -30,17 +27,14 @@ pub fn append(list: &mut [Entry], at: usize, e: Entry)
     }
 }
 
-// Of the first n entries the one at a place is taken out: from the back, each entry behind it moves up, once.
+// Of the first n entries the one at a place is taken out: each entry behind it moves up, and the last place becomes blank.
 pub fn take_out(list: &mut [Entry], n: usize, at: usize)
     ensures { list.new ≡ taken_out n at list.old }
 {
-    let mut moving = blank_entry();
-    let mut i = least(n, list.len());
-    while at < i {
-        i -= 1;
-        let e = list[i];
-        list[i] = moving;
-        moving = e;
+    let end = n.min(list.len());
+    if at < end {
+        list[at..end].rotate_left(1);
+        list[end - 1] = blank_entry();
     }
 }
 
@@ -48,11 +42,6 @@ pub fn take_out(list: &mut [Entry], n: usize, at: usize)
 pub fn blank(list: &mut [Entry], n: usize)
     ensures { list.new ≡ blanked n list.old }
 {
-    let end = least(n, list.len());
-    let e = blank_entry();
-    let mut i: usize = 0;
-    while i < end {
-        list[i] = e;
-        i += 1;
-    }
+    let end = n.min(list.len());
+    list[..end].fill(blank_entry());
 }

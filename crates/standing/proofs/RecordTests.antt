@@ -9,6 +9,7 @@ use borrow.Author.Tests.{ltb-true, lt-ltb, leb-true, le-leb}
 use lib.Dec.{ltb, leb}
 use lib.ListN.{length, take, length-take}
 use lib.Seq.{get_or-take}
+use Rattle.std.specs.Int.{is_power_of_two}
 use Rattle.meaning.specs.Sets.{In}
 use Rattle.meaning.proofs.SetLaws.{member, in_below}
 use Rattle.table.specs.Cells.{operation_at}
@@ -19,21 +20,21 @@ use Rattle.table.proofs.SoundSets.{fit_says}
 use Rattle.std.specs.Prelude.{Option, Some, None}
 use Rattle.standing.specs.declared.numbers.Terminal.{Terminal}
 use Rattle.standing.specs.declared.records.Session.{Session}
-use Rattle.standing.specs.Searching.{sole_in, state_fits, operations_in, operations_by}
+use Rattle.standing.specs.Searching.{state_fits, operations_in, operations_by}
 use Rattle.standing.specs.Soundness.{RecordSound}
 use Rattle.standing.proofs.Meeting.{in_operations, operations_below}
 use Rattle.standing.proofs.Single.{sole_says}
 use Rattle.standing.proofs.States.{free_not_running, same_runner}
 
 -- while running: what holds of one that runs, where P is what is asked of the set
-state_says : (st : Option Terminal) (os : ℕ) (P : Type 0) → (sole_in 64 os ≡ true) ↔ P
+state_says : (st : Option Terminal) (os : ℕ) (P : Type 0) → (is_power_of_two os ≡ true) ↔ P
     → (state_fits st os ≡ true) ↔ (((t : Terminal) → st ≡ Some t → t.0 < 64) × ((t : Terminal) → st ≡ Some t → P))
 state_says None os P sole = (λ h. (λ t e. free_not_running t e, λ t e. free_not_running t e), λ h. refl)
 state_says (Some u) os P sole = (
   λ h.
-      let both = (and-eq-true_iff (ltb u.0 64) (sole_in 64 os)).0 h in
+      let both = (and-eq-true_iff (ltb u.0 64) (is_power_of_two os)).0 h in
       (λ t e. subst (λ (n : ℕ). n < 64) (same_runner u t e) (ltb-true u.0 64 both.0), λ t e. sole.0 both.1),
-  λ h. (and-eq-true_iff (ltb u.0 64) (sole_in 64 os)).1 (lt-ltb u.0 64 (h.0 u refl), sole.1 (h.1 u refl)),
+  λ h. (and-eq-true_iff (ltb u.0 64) (is_power_of_two os)).1 (lt-ltb u.0 64 (h.0 u refl), sole.1 (h.1 u refl)),
 )
 
 module _ (s : Session) (all : length s.table.operations ≡ 64) (sound : TableSound s.table) (fit : Fit s.table s.set) where
@@ -52,7 +53,7 @@ module _ (s : Session) (all : length s.table.operations ≡ 64) (sound : TableSo
       (p, omega (arith, places, there), i, ap (λ (o : Operation). o.0) (get_or-take s.table.positions s.table.operations p _ there))
 
   -- one operation's positions only: one operation meets the set
-  one_operation : (sole_in 64 (operations_in os s.set) ≡ true)
+  one_operation : (is_power_of_two (operations_in os s.set) ≡ true)
       ↔ ((o : ℕ) × ((p : ℕ) → In p s.set → operation_at s.table p ≡ o))
   one_operation =
       let says = sole_says 64 (operations_in os s.set) (operations_below os s.set) in (

@@ -1,13 +1,12 @@
 -- Small sets as numbers: a bit that a shift shows, the set of one number, and the operations of a set of positions.
-use mathlib.Core.Path.{◌≡◌, refl, ap, ◌∙◌}
+use mathlib.Core.Path.{◌≡◌, refl}
 use mathlib.Core.List.{List, [], ◌∷◌, map}
-use Prim.Native.Nat.{ℕ, zero, suc, ◌^◌, ◌*◌, ◌/◌, ◌%◌, ◌<◌, ◌≤◌, min}
+use Prim.Native.Nat.{ℕ, zero, suc, ◌^◌, ◌*◌, ◌/◌, ◌%◌, ◌<◌, ◌≤◌}
 use native.Mathlib.Nat.{one-mul, mod-eq_of_lt, not-suc-le-zero, le_of_suc-le-suc, div-one, pow-succ', pow-zero, div-div-eq-div-mul}
 use native.Mathlib.Omega.{arith}
 use lib.Dec.{eqb}
-use lib.ListN.{length, take, get_or, length-take, length-map}
+use lib.ListN.{length, get_or, length-map}
 use lib.Pow.{pow-lt}
-use lib.Seq.{get_or-take}
 use borrow.Author.Tests.{lt-ltb, le-ltb}
 use Rattle.meaning.specs.Sets.{mem}
 use Rattle.table.specs.declared.numbers.Operation.{Operation}
@@ -33,18 +32,12 @@ mapped_at f [] z p h = absurd (not-suc-le-zero h)
 mapped_at f (x ∷ xs) z zero h = refl
 mapped_at f (x ∷ xs) z (suc p) h = mapped_at f xs z p (le_of_suc-le-suc h)
 
--- the bits of the operations, of which a set of positions picks some
-abbrev pub bits_of : ℕ → List Operation → List ℕ
-bits_of positions operations = map (λ o. bit_of o.0) (take positions operations)
+-- the bits of some operations, of which a set of positions picks some
+abbrev pub bits_of : List Operation → List ℕ
+bits_of used = map (λ o. bit_of o.0) used
 
-module _ (positions : ℕ) (operations : List Operation) (all : length operations ≡ 64) where
-  places : length (take positions operations) ≡ min positions 64
-  places = rw (← all) (length-take positions operations)
+pub length_bits : (used : List Operation) → length (bits_of used) ≡ length used
+length_bits used = length-map used (λ o. bit_of o.0)
 
-  pub length_bits : length (bits_of positions operations) ≡ min positions 64
-  length_bits = length-map (take positions operations) (λ o. bit_of o.0) ∙ places
-
-  pub bit_at : (p : ℕ) → p < min positions 64 → get_or (bits_of positions operations) p 0 ≡ bit_of (get_or operations p (record { 0 = 0 })).0
-  bit_at p h =
-      mapped_at (λ o. bit_of o.0) (take positions operations) (record { 0 = 0 }) p (omega (arith, places))
-      ∙ ap (λ (o : Operation). bit_of o.0) (get_or-take positions operations p (record { 0 = 0 }) (omega arith))
+pub bit_at : (used : List Operation) (p : ℕ) → p < length used → get_or (bits_of used) p 0 ≡ bit_of (get_or used p (record { 0 = 0 })).0
+bit_at used p h = mapped_at (λ o. bit_of o.0) used (record { 0 = 0 }) p h

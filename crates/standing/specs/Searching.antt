@@ -1,6 +1,7 @@
 -- Looking through the list once, an entry at a time: what the inner functions say. The contracts of the calls do not speak of it.
-use Rattle.std.specs.Prelude.{Bool, true, false, cond, not, ◌&&◌, List, [], ◌∷◌, map, ℕ, zero, suc, ◌^◌, ◌/◌, eqb, ltb, take, Option, Some, None}
+use Rattle.std.specs.Prelude.{Bool, true, cond, not, ◌&&◌, List, [], ◌∷◌, map, ℕ, suc, ◌^◌, eqb, ltb, take, Option, Some, None}
 use Rattle.std.specs.Bool.{then_some}
+use Rattle.std.specs.Int.{is_power_of_two}
 use Rattle.std.specs.Int.Bits.{bit_or}
 use Rattle.std.specs.Option.{option_or}
 use Rattle.meaning.specs.Sets.{mem, union_of}
@@ -63,15 +64,10 @@ abbrev pub taken_in : Option Terminal → ℕ
 taken_in None = 0
 taken_in (Some t) = bit_of t.0
 
--- one number below n, and no other, is in the set
-unfoldable pub sole_in : ℕ → ℕ → Bool
-sole_in zero s = false
-sole_in (suc n) s = cond (mem 0 s) (eqb s 1) (sole_in n (s / 2))
-
 -- while running, the terminal is below 64 and one operation meets the set
 abbrev pub state_fits : Option Terminal → ℕ → Bool
 state_fits None os = true
-state_fits (Some t) os = ltb t.0 64 && sole_in 64 os
+state_fits (Some t) os = ltb t.0 64 && is_power_of_two os
 
 -- what a search starts with: for terminal t, and for the first entry of an operation in w
 unfoldable pub searching : Session → Terminal → ℕ → Search

@@ -9,8 +9,5 @@ pub struct Terminal(pub u16);
 pub fn least(a: usize, b: usize) -> usize
     ensures { result ≡ min a b }
 {
-    if a < b {
-        return a;
-    }
-    b
+    a.min(b)
 }

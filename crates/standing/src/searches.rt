@@ -5,7 +5,7 @@ ghost use Rattle.meaning.specs.Sets.{mem};
 ghost use Rattle.standing.specs.Searching.{bit_of, operations_in, entry_fits, examined, barred_in, taken_in, searching, looking, looking_next};
 
 use crate::entries::Entry;
-use crate::numbers::{Terminal, least};
+use crate::numbers::Terminal;
 use crate::records::Session;
 use table::numbers::Operation;
 use table::sets::union_of;
@@ -42,10 +42,7 @@ pub struct Search {
 fn has(set: u64, n: usize) -> bool
     ensures { result ≡ mem n set }
 {
-    if 63 < n {
-        return false;
-    }
-    (set >> n) % 2 == 1
+    n < 64 && (set >> n) % 2 == 1
 }
 
 // The set, with n; n from 64 on is in no set.
@@ -55,62 +52,45 @@ fn with(set: u64, n: usize) -> u64
     if 63 < n {
         return set;
     }
-    set | (1u64 << n)
-}
-
-// An operation's number, as wide as a place.
-fn number(o: Operation) -> usize
-    ensures { result ≡ o.0 }
-{
-    o.0 as usize
+    set | (1 << n)
 }
 
 // The operations of the positions in a set, of the first `positions` there are.
 pub fn operations_in(positions: usize, operations: [Operation; 64], set: u64) -> u64
     ensures { result ≡ operations_in (take positions operations) set }
 {
-    let end = least(positions, 64);
-    let mut out: u64 = 0;
+    let used = &operations[..positions.min(64)];
+    let mut out = 0;
     let mut rest = set;
-    let mut p: usize = 0;
-    while p < end {
+    for operation in used {
         if rest % 2 == 1 {
-            out = with(out, number(operations[p]));
+            out = with(out, usize::from(operation.0));
         }
-        rest = rest / 2;
-        p += 1;
+        rest /= 2;
     }
     out
 }
 
 // The entry is as it may be, after those so far.
+#[tactic(auto, unfolding(crate::specs::Searching::entry_fits))]
 fn entry_fits(s: Search, e: Entry) -> bool
     ensures { result ≡ entry_fits s e }
 {
-    if 63 < e.terminal.0 {
-        return false;
-    }
-    if has(s.taken, e.terminal.0 as usize) {
-        return false;
-    }
-    if s.names <= e.operation.0 as usize {
-        return false;
-    }
-    !has(s.barred, e.operation.0 as usize)
+    let terminal = usize::from(e.terminal.0);
+    let operation = usize::from(e.operation.0);
+    terminal < 64 && !has(s.taken, terminal) && operation < s.names && !has(s.barred, operation)
 }
 
 // The entry at a place is examined; what was found before stays.
+#[tactic(auto, unfolding(crate::specs::Searching::examined))]
 pub fn examine(s: Search, e: Entry, place: usize) -> Search
     ensures { result ≡ examined s e place }
 {
-    let here = Waiter {
-        place: place,
-        entry: e,
-    };
+    let here = Waiter { place, entry: e };
     let is_own = e.terminal == s.terminal;
-    let is_wanted = has(s.wanted, e.operation.0 as usize);
+    let is_wanted = has(s.wanted, usize::from(e.operation.0));
     Search {
-        taken: with(s.taken, e.terminal.0 as usize),
+        taken: with(s.taken, usize::from(e.terminal.0)),
         fits: s.fits && entry_fits(s, e),
         own: s.own.or(is_own.then_some(here)),
         first: s.first.or(is_wanted.then_some(here)),
@@ -119,15 +99,16 @@ pub fn examine(s: Search, e: Entry, place: usize) -> Search
 }
 
 // What a search starts with, for a terminal and for the first entry of a wanted operation.
+#[tactic(auto, unfolding(crate::specs::Searching::searching))]
 fn search_for(session: Session, terminal: Terminal, wanted: u64) -> Search
     ensures { result ≡ searching session terminal wanted }
 {
-    let operations = session.table.operations;
-    let met = operations_in(session.table.positions, operations, session.set);
+    let table = session.table;
+    let met = operations_in(table.positions, table.operations, session.set);
     Search {
-        terminal: terminal,
-        wanted: wanted,
-        names: session.table.names,
+        terminal,
+        wanted,
+        names: table.names,
         barred: barred_in(session.running, met),
         taken: taken_in(session.running),
         fits: true,
@@ -152,7 +133,7 @@ fn taken_in(running: Option<Terminal>) -> u64
 {
     match running {
         None => 0,
-        Some(t) => with(0, t.0 as usize),
+        Some(t) => with(0, usize::from(t.0)),
     }
 }
 
@@ -167,9 +148,8 @@ pub fn look_for(session: Session, terminal: Terminal) -> Search
 pub fn look_for_next(session: Session, terminal: Terminal) -> Search
     ensures { result ≡ looking_next session terminal }
 {
-    let rows = session.table.rows;
-    let left = union_of(&rows, session.set);
-    let operations = session.table.operations;
-    let wanted = operations_in(session.table.positions, operations, left);
+    let table = session.table;
+    let left = union_of(&table.rows, session.set);
+    let wanted = operations_in(table.positions, table.operations, left);
     search_for(session, terminal, wanted)
 }

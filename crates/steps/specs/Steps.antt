@@ -1,10 +1,9 @@
 -- What each call does to the record and the list where it is not refused: the bullets of document 01, "Sessions".
-use Rattle.std.specs.Prelude.{Bool, true, false, cond, ◌&&◌, List, ℕ, suc, ◌-◌, eqb, Option, Some, None, is_none}
+use Rattle.std.specs.Prelude.{cond, ◌&&◌, List, ℕ, suc, ◌-◌, eqb, Option, Some, None, is_none}
 use Rattle.std.specs.Int.Bits.{bit_and}
 use Rattle.meaning.specs.Sets.{union_of}
 use Rattle.table.specs.Following.{permission_set}
 use Rattle.table.specs.declared.cells.Table.{Table}
-use Rattle.standing.specs.declared.numbers.Terminal.{Terminal}
 use Rattle.standing.specs.declared.searches.Waiter.{Waiter}
 use Rattle.standing.specs.declared.entries.Entry.{Entry}
 use Rattle.standing.specs.declared.records.Session.{Session}

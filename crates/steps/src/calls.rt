@@ -17,6 +17,7 @@ use table::names::{Found as Named, find};
 use table::soundness::is_sound;
 
 // 8, 9 or 10, whichever comes first.
+#[tactic(auto, unfolding(crate::specs::Values::first_refusal))]
 fn refusal(
     session: Session,
     entries: usize,
@@ -49,6 +50,7 @@ fn runs(session: Session, terminal: Terminal) -> bool
 }
 
 // An opening over a table: 8, 9, then free, the start set, and nobody waits.
+#[tactic(auto, unfolding(crate::specs::Values::open_value))]
 pub fn opened(entries: usize, table: Table) -> Result<Session, CallRefusal>
     ensures { OpenedBy entries table result }
 {
@@ -64,6 +66,7 @@ pub fn opened(entries: usize, table: Table) -> Result<Session, CallRefusal>
 }
 
 // An ask for an operation that exists.
+#[tactic(auto, unfolding(crate::specs::Values::ask_known))]
 fn ask_known(
     session: Session,
     entries: usize,
@@ -82,6 +85,7 @@ fn ask_known(
 }
 
 // An ask: 8 to 13, then its step.
+#[tactic(auto, unfolding(crate::specs::Values::ask_value, table::specs::Cells::names_of))]
 pub fn asked(
     session: Session,
     entries: usize,
@@ -92,17 +96,15 @@ pub fn asked(
     ensures { AskedBy session entries found terminal name.now result }
 {
     refusal(session, entries, found, terminal)?;
-    let lengths = session.table.lengths;
-    let bytes = session.table.bytes;
-    let named = find(session.table.names, lengths, bytes, name);
-    match named {
+    let table = session.table;
+    match find(table.names, table.lengths, table.bytes, name) {
         Named::Nowhere => Err(CallRefusal::NoOperation),
         Named::At(o) => ask_known(
             session,
             entries,
             found,
             Entry {
-                terminal: terminal,
+                terminal,
                 operation: o,
             },
         ),
@@ -110,6 +112,7 @@ pub fn asked(
 }
 
 // A finish: 8, 9, 10, 14, then its step.
+#[tactic(auto, unfolding(crate::specs::Values::finish_value))]
 pub fn finished(
     session: Session,
     entries: usize,
@@ -126,6 +129,7 @@ pub fn finished(
 }
 
 // A withdrawal: 8, 9, 10, 15, then its step.
+#[tactic(auto, unfolding(crate::specs::Values::withdraw_value))]
 pub fn withdrawn(
     session: Session,
     entries: usize,

@@ -17,11 +17,11 @@ use table::numbers::Operation;
 use table::sets::{meets, permission, union_of};
 
 // The permission set of an operation.
+#[tactic(auto, unfolding(table::specs::Following::permission_set))]
 fn permission_of(session: Session, o: Operation) -> u64
     ensures { result ≡ permission_set session.table o.0 }
 {
-    let operations = session.table.operations;
-    permission(session.table.positions, operations, o)
+    permission(session.table.positions, session.table.operations, o)
 }
 
 // The operation meets the set.
@@ -65,23 +65,11 @@ fn set_free(session: Session) -> Session
 }
 
 // One more, of at most 64.
+#[tactic(auto, unfolding(crate::specs::Values::one_more))]
 fn one_more(n: usize) -> usize
     ensures { result ≡ one_more n }
 {
-    if n < 64 {
-        return n + 1;
-    }
-    n
-}
-
-// One less, of at least 0.
-fn one_less(n: usize) -> usize
-    ensures { result ≡ n - 1 }
-{
-    if n == 0 {
-        return 0;
-    }
-    n - 1
+    if n < 64 { n + 1 } else { n }
 }
 
 // An opening over a table: free, the start set, and nobody waits.
@@ -89,7 +77,7 @@ pub fn open_step(table: Table) -> Session
     ensures { result ≡ opening table }
 {
     Session {
-        table: table,
+        table,
         set: table.start,
         running: None,
         waiting: 0,
@@ -131,15 +119,16 @@ fn hand_to(session: Session, w: Waiter) -> Handed
     Handed {
         reply: Finished {
             examined: one_more(w.place),
-            next: next,
+            next,
         },
-        session: granted(session, w.entry, one_less(waiting)),
+        session: granted(session, w.entry, waiting.saturating_sub(1)),
         used: waiting,
         place: w.place,
     }
 }
 
 // A finish: the set moves on, and the line goes to the entry that was found first, if any.
+#[tactic(auto, unfolding(crate::specs::Values::finish_core))]
 pub fn finish_step(session: Session, first: Option<Waiter>) -> Handed
     ensures { result ≡ finish_core session first }
 {
@@ -159,13 +148,14 @@ pub fn finish_step(session: Session, first: Option<Waiter>) -> Handed
 }
 
 // A withdrawal: the entry at the place is taken out.
+#[tactic(auto, unfolding(crate::specs::Values::withdraw_core))]
 pub fn withdraw_step(session: Session, place: usize) -> Withdrawn
     ensures { result ≡ withdraw_core session place }
 {
     let waiting = session.waiting;
     Withdrawn {
-        session: counted(session, one_less(waiting)),
+        session: counted(session, waiting.saturating_sub(1)),
         used: waiting,
-        place: place,
+        place,
     }
 }

@@ -2,30 +2,29 @@
 use mathlib.Core.Path.{◌≡◌, ap, ◌∙◌}
 use native.Mathlib.Omega.{arith}
 use lib.Bits.{bit_or, or_zero_r}
-use lib.ListN.{length}
+use lib.ListN.{length, take}
 use borrow.Author.Tests.{eq-eqb, ne_eqb}
 use borrow.Author.Rules.{rules}
 use Rattle.meaning.specs.Sets.{mem}
+use Rattle.std.proofs.lemmas.List.{take_min}
 use Rattle.table.proofs.Unions.{turn_united, all_united}
 use Rattle.standing.specs.Searching.{operations_in, bit_of}
 use Rattle.standing.proofs.SmallSets.{bits_of, length_bits, bit_at}
 use Rattle.standing.proofs.searches.operations_in.Goals as goal
 use Rattle.standing.proofs.searches.operations_in.Goals.{then-rest-eq1, else-rest-eq1}
 
-pub loop-p-preserved : goal.loop-p-preserved
+pub loop-operation-preserved : goal.loop-operation-preserved
 unfolding mem
-loop-p-preserved c =
-    let l = c.loop-p in
-    let a = c.args in
-    let all : length a.operations ≡ 64 = search rules in
-    let within = c.least-end.ensures in
+loop-operation-preserved c =
+    let l = c.loop-operation in
+    let used = take c.min.result c.args.operations in
+    let i = l.operation-index in
     let turn =
-    turn_united (bits_of a.positions a.operations) _ l.out l.rest l.p l.invariant c.if-rest-eq1.out
-    (omega (arith, length_bits a.positions a.operations all, within, c.loop-p-test.true)) in
-    let here = bit_at a.positions a.operations all l.p (omega (arith, within, c.loop-p-test.true)) in
+    turn_united (bits_of used) _ l.out l.rest i l.invariant c.if-rest-eq1.out
+    (omega (arith, length_bits used, c.loop-operation-test.true)) in
+    let here = bit_at used i c.loop-operation-test.true in
     elim c.if-rest-eq1.branch [
-      | then-rest-eq1 w ↦ turn (rw (eq-eqb _ _ w.if-rest-eq1.true, here)
-          (w.out-is ∙ w.with-out.ensures ∙ ap (λ n. bit_or l.out (bit_of n)) w.number.ensures))
+      | then-rest-eq1 w ↦ turn (rw (eq-eqb _ _ w.if-rest-eq1.true, here) (w.out-is ∙ w.with-out.ensures ∙ ap (λ n. bit_or l.out (bit_of n)) w.from.ensures))
       | else-rest-eq1 w ↦ turn (rw (ne_eqb _ _ w.if-rest-eq1.false, or_zero_r) w.out-is)
     ]
 
@@ -34,5 +33,7 @@ unfolding operations_in
 returns c =
     let a = c.args in
     let all : length a.operations ≡ 64 = search rules in
-    all_united _ _ _ _ _ c.loop-p.invariant
-    (omega (arith, length_bits a.positions a.operations all, c.least-end.ensures, c.loop-p-test.false))
+    let used = take c.min.result a.operations in
+    let same : used ≡ take a.positions a.operations =
+    rw (c.min.ensures, ← all) (take_min a.positions a.operations) in
+    rw (← same) (all_united _ _ _ _ _ c.loop-operation.invariant (omega (arith, length_bits used, c.loop-operation-test.false)))
