@@ -9,9 +9,12 @@ pub struct Refusal {
     pub place: usize,
 }
 
-// Whether the text is accepted, and beside it the table; where the text is refused, the table of zeros.
+// Whether the text is accepted.
+pub type Reply = Result<(), Refusal>;
+
+// The reply, and beside it the table; where the text is refused, the table of zeros.
 #[derive(Clone, Copy)]
 pub struct Compiled {
-    pub reply: Result<(), Refusal>,
+    pub reply: Reply,
     pub table: Table,
 }

@@ -8,7 +8,7 @@ use Rattle.meaning.specs.Operations.{holds, added, distinct, distinct_after}
 use Rattle.meaning.specs.Promises.{longer, shorter}
 use Rattle.meaning.proofs.Reduction.{longer_rewritten}
 use Rattle.text.specs.Classes.{class_of}
-use Rattle.text.specs.Tokens.{span, word_token, sign_token, token_from, next_token}
+use Rattle.text.specs.Tokens.{span, word_token, token_from, next_token}
 use Rattle.grammar.specs.Symbols.{items_by, items_within, items_from, items}
 use Rattle.grammar.specs.Machine.{want_step, have_step, start_step, step_to, depth_of, limit_at, names_on, at_end, limited, stepped}
 use Rattle.grammar.specs.Machine.{judge_item, judge_from, judge}
@@ -24,7 +24,7 @@ named path = path (name (bytes "a")) (name (bytes "b")) (name (bytes "c")) (name
 
 -- what the machine says of the two texts
 judged : (judge longer_path ≡ accepted (named longer)) × (judge shorter_path ≡ accepted (named shorter))
-unfolding judge judge_from judge_item stepped limited at_end names_on limit_at depth_of step_to start_step want_step have_step items items_from items_within items_by next_token token_from span word_token sign_token class_of key same holds added distinct distinct_after
+unfolding judge judge_from judge_item stepped limited at_end names_on limit_at depth_of step_to start_step want_step have_step items items_from items_within items_by next_token token_from span word_token class_of key same holds added distinct distinct_after
 judged = (refl, refl)
 
 pub report_pair_told_alike : ReportPairToldAlike

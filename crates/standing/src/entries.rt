@@ -7,7 +7,7 @@ use table::numbers::Operation;
 
 // A terminal, and the operation that it waits for.
 #[repr(C)]
-#[derive(Clone, Copy)]
+#[derive(Clone, Copy, Debug, PartialEq, Eq)]
 pub struct Entry {
     pub terminal: Terminal,
     pub operation: Operation,

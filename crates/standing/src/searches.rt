@@ -7,6 +7,7 @@ ghost use Rattle.standing.specs.Searching.{bit_of, operations_in, entry_fits, ex
 use crate::entries::Entry;
 use crate::numbers::Terminal;
 use crate::records::Session;
+use table::cells::Table;
 use table::numbers::Operation;
 use table::sets::union_of;
 
@@ -55,20 +56,26 @@ fn with(set: u64, n: usize) -> u64
     set | (1 << n)
 }
 
-// The operations of the positions in a set, of the first `positions` there are.
-pub fn operations_in(positions: usize, operations: [Operation; 64], set: u64) -> u64
-    ensures { result ≡ operations_in (take positions operations) set }
+// The operations of the places in a set.
+fn operations_at(operations: &[Operation], set: u64) -> u64
+    ensures { result ≡ operations_in operations.now set }
 {
-    let used = &operations[..positions.min(64)];
     let mut out = 0;
     let mut rest = set;
-    for operation in used {
+    for operation in operations {
         if rest % 2 == 1 {
             out = with(out, usize::from(operation.0));
         }
         rest /= 2;
     }
     out
+}
+
+// The operations of a table's positions that are in a set.
+pub fn operations_in(table: &Table, set: u64) -> u64
+    ensures { result ≡ operations_in (take table.now.positions table.now.operations) set }
+{
+    operations_at(table.operations_in_use(), set)
 }
 
 // The entry is as it may be, after those so far.
@@ -104,7 +111,7 @@ fn search_for(session: Session, terminal: Terminal, wanted: u64) -> Search
     ensures { result ≡ searching session terminal wanted }
 {
     let table = session.table;
-    let met = operations_in(table.positions, table.operations, session.set);
+    let met = operations_in(&table, session.set);
     Search {
         terminal,
         wanted,
@@ -150,6 +157,6 @@ pub fn look_for_next(session: Session, terminal: Terminal) -> Search
 {
     let table = session.table;
     let left = union_of(&table.rows, session.set);
-    let wanted = operations_in(table.positions, table.operations, left);
+    let wanted = operations_in(&table, left);
     search_for(session, terminal, wanted)
 }

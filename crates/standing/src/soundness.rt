@@ -6,7 +6,7 @@ ghost use Rattle.standing.specs.Soundness.{RecordSound};
 use crate::numbers::Terminal;
 use crate::records::Session;
 use crate::searches::operations_in;
-use table::soundness::{fits, is_sound};
+use table::soundness::fits;
 
 // While running, the terminal is below 64 and the set has one operation's positions only.
 fn state_fits(running: Option<Terminal>, met: u64) -> bool
@@ -23,11 +23,8 @@ pub fn record_is_sound(session: Session) -> bool
     ensures { (result ≡ true) ↔ RecordSound session }
 {
     let table = session.table;
-    is_sound(table)
+    table.is_sound()
         && fits(session.set, table.positions)
-        && state_fits(
-            session.running,
-            operations_in(table.positions, table.operations, session.set),
-        )
+        && state_fits(session.running, operations_in(&table, session.set))
         && session.waiting <= 64
 }

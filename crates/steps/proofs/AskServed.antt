@@ -14,12 +14,11 @@ use Rattle.meaning.specs.Operations.{holds, number_of}
 use Rattle.meaning.specs.Calls.Call.{ask}
 use Rattle.table.specs.Cells.{names_of}
 use Rattle.table.specs.Following.{found_in}
-use Rattle.table.specs.declared.names.Found.TheVariants.{At, Nowhere}
 use Rattle.standing.specs.declared.numbers.Terminal.{Terminal}
 use Rattle.standing.specs.declared.entries.Entry.{Entry}
 use Rattle.standing.specs.declared.records.Session.{Session}
 use Rattle.standing.specs.declared.searches.Search.{Search}
-use Rattle.std.specs.Prelude.{Result, Ok, Err, is_none, is_some}
+use Rattle.std.specs.Prelude.{Some, None, Result, Ok, Err, is_none, is_some}
 use Rattle.steps.specs.declared.replies.CallRefusal.{CallRefusal}
 use Rattle.steps.specs.declared.replies.CallRefusal.TheVariants.{NoOperation, Running, Waiting}
 use Rattle.steps.specs.declared.replies.Ask.TheVariants.{Granted, Delayed}
@@ -131,7 +130,7 @@ module _ (s : Session) (l : List Entry) (t : Terminal) (n : Name) (sound : Bool)
 
     -- 11, or on
     named : (b : Bool) → known ≡ b
-        → Good (ask_named s (length l) f t (cond b (At (record { 0 = number_of (names_of s.table) (key n) })) Nowhere))
+        → Good (ask_named s (length l) f t (cond b (Some (record { 0 = number_of (names_of s.table) (key n) })) None))
     unfolding ask_known
     named false absent =
         refused_by NoOperation

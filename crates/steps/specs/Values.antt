@@ -3,12 +3,11 @@
 use Rattle.std.specs.Prelude.{◌≡◌, Bool, true, false, cond, ◌&&◌, List, ◌↔◌, ℕ, suc, ◌-◌, eqb, ltb, set, Result, Ok, Err, Option, Some, None, is_none, is_some}
 use Rattle.std.specs.Result.{result_and}
 use Rattle.meaning.specs.Names.{key}
+use Rattle.table.specs.declared.numbers.Operation.{Operation}
 use Rattle.table.specs.Cells.{names_of}
 use Rattle.table.specs.Following.{found_in}
 use Rattle.table.specs.Soundness.{Sound as TableSound}
 use Rattle.table.specs.declared.cells.Table.{Table}
-use Rattle.table.specs.declared.names.Found.{Found as Named}
-use Rattle.table.specs.declared.names.Found.TheVariants.{At as NamedAt, Nowhere}
 use Rattle.standing.specs.declared.searches.Waiter.{Waiter}
 use Rattle.standing.specs.declared.numbers.Terminal.{Terminal}
 use Rattle.standing.specs.declared.entries.Entry.{Entry}
@@ -54,9 +53,9 @@ ask_core s n e =
 unfoldable pub ask_known : Session → ℕ → Search → Entry → Result Asked CallRefusal
 ask_known s n f e = cond (runs_in s.running e.terminal) (Err Running) (cond (is_some f.own) (Err Waiting) (Ok (ask_core s n e)))
 
-abbrev pub ask_named : Session → ℕ → Search → Terminal → Named → Result Asked CallRefusal
-ask_named s n f t Nowhere = Err NoOperation
-ask_named s n f t (NamedAt o) = ask_known s n f (record { terminal = t; operation = o })
+abbrev pub ask_named : Session → ℕ → Search → Terminal → Option Operation → Result Asked CallRefusal
+ask_named s n f t None = Err NoOperation
+ask_named s n f t (Some o) = ask_known s n f (record { terminal = t; operation = o })
 
 unfoldable pub ask_value : Bool → Session → ℕ → Search → Terminal → List ℕ → Result Asked CallRefusal
 ask_value sound s n f t name =

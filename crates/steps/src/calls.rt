@@ -13,8 +13,6 @@ use standing::records::Session;
 use standing::searches::Search;
 use standing::soundness::record_is_sound;
 use table::cells::Table;
-use table::names::{Found as Named, find};
-use table::soundness::is_sound;
 
 // 8, 9 or 10, whichever comes first.
 #[tactic(auto, unfolding(crate::specs::Values::first_refusal))]
@@ -55,7 +53,7 @@ pub fn opened(entries: usize, table: Table) -> Result<Session, CallRefusal>
     ensures { OpenedBy entries table result }
 {
     // As above.
-    let sound = is_sound(table);
+    let sound = table.is_sound();
     if entries < 64 {
         return Err(CallRefusal::ShortList);
     }
@@ -85,7 +83,7 @@ fn ask_known(
 }
 
 // An ask: 8 to 13, then its step.
-#[tactic(auto, unfolding(crate::specs::Values::ask_value, table::specs::Cells::names_of))]
+#[tactic(auto, unfolding(crate::specs::Values::ask_value))]
 pub fn asked(
     session: Session,
     entries: usize,
@@ -96,16 +94,15 @@ pub fn asked(
     ensures { AskedBy session entries found terminal name.now result }
 {
     refusal(session, entries, found, terminal)?;
-    let table = session.table;
-    match find(table.names, table.lengths, table.bytes, name) {
-        Named::Nowhere => Err(CallRefusal::NoOperation),
-        Named::At(o) => ask_known(
+    match session.table.find(name) {
+        None => Err(CallRefusal::NoOperation),
+        Some(operation) => ask_known(
             session,
             entries,
             found,
             Entry {
                 terminal,
-                operation: o,
+                operation,
             },
         ),
     }

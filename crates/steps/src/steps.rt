@@ -2,7 +2,6 @@
 // and list they leave a sound one, for an ask by a terminal that neither runs nor waits, a finish with the entry that it picks and a
 // withdrawal with its terminal's own (specs/Promises.antt). Callers from outside use the calls, which test.
 ghost use Rattle.std.specs.Prelude.{◌≡◌, ◌-◌, Some};
-ghost use Rattle.table.specs.Following.{permission_set};
 ghost use Rattle.standing.specs.Soundness.{meets_set};
 ghost use Rattle.steps.specs.Steps.{opening, granting, counting, freed};
 ghost use Rattle.steps.specs.Values.{one_more, ask_core, hand_core, finish_core, withdraw_core};
@@ -14,21 +13,13 @@ use standing::records::Session;
 use standing::searches::Waiter;
 use table::cells::Table;
 use table::numbers::Operation;
-use table::sets::{meets, permission, union_of};
-
-// The permission set of an operation.
-#[tactic(auto, unfolding(table::specs::Following::permission_set))]
-fn permission_of(session: Session, o: Operation) -> u64
-    ensures { result ≡ permission_set session.table o.0 }
-{
-    permission(session.table.positions, session.table.operations, o)
-}
+use table::sets::{meets, union_of};
 
 // The operation meets the set.
 fn is_met(session: Session, o: Operation) -> bool
     ensures { result ≡ meets_set session o.0 }
 {
-    meets(session.set, permission_of(session, o))
+    meets(session.set, session.table.permission(o))
 }
 
 // The entry is granted: the set becomes what both share, and its terminal runs.
@@ -36,7 +27,7 @@ fn granted(session: Session, e: Entry, waiting: usize) -> Session
     ensures { result ≡ granting session e waiting }
 {
     Session {
-        set: session.set & permission_of(session, e.operation),
+        set: session.set & session.table.permission(e.operation),
         running: Some(e.terminal),
         waiting,
         ..session

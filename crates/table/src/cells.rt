@@ -1,5 +1,5 @@
 // The table.
-ghost use Rattle.std.specs.Prelude.{◌≡◌};
+ghost use Rattle.std.specs.Prelude.{◌≡◌, take};
 ghost use Rattle.table.specs.Cells.{zeros};
 
 use crate::numbers::Operation;
@@ -32,5 +32,14 @@ pub fn table_of_zeros() -> Table
         lengths: [0; 32],
         bytes: [0; 512],
         mark: 0,
+    }
+}
+
+impl Table {
+    // The operations of the positions in use.
+    pub fn operations_in_use(&self) -> &[Operation]
+        ensures { result.now ≡ take self.now.positions self.now.operations }
+    {
+        &self.operations[..self.positions.min(64)]
     }
 }

@@ -26,10 +26,10 @@ fn none_twice(operations: &[Operation]) -> bool
 
 impl Table {
     // The mark that the rule gives the table, whatever mark it has.
+    #[tactic(auto, using(crate::proofs::Taking::byte_of_bit), unfolding(crate::specs::Marks::mark_of))]
     pub fn mark_by_rule(&self) -> u8
         ensures { result ≡ mark_of self.now }
     {
-        let n = self.positions.min(64);
-        u8::from(none_twice(&self.operations[..n]))
+        u8::from(none_twice(self.operations_in_use()))
     }
 }

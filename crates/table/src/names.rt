@@ -19,6 +19,17 @@ impl Table {
         &self.bytes[from..to]
     }
 
+    // The name of an operation; no bytes, if the table does not have it.
+    pub fn name(&self, o: Operation) -> &[u8]
+        ensures { result.now ≡ get_or (names_of self.now) o.0 [] }
+    {
+        let i = o.0 as usize;
+        if self.names.min(32) <= i {
+            return &[];
+        }
+        self.spelling(i)
+    }
+
     // The operation of a name, among the first n there are.
     pub(crate) fn find_among(&self, n: usize, name: &[u8]) -> Option<Operation>
         ensures { result ≡ found_in (take n (spellings self.now.lengths self.now.bytes)) (key name.now) }

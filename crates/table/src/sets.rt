@@ -67,9 +67,10 @@ fn positions_with(operations: &[Operation], o: Operation) -> u64
 
 impl Table {
     // The permission set of an operation: all its positions.
+    #[tactic(auto, unfolding(crate::specs::Following::permission_set))]
     pub fn permission(&self, o: Operation) -> u64
         ensures { result ≡ permission_set self.now o.0 }
     {
-        positions_with(&self.operations[..self.positions.min(64)], o)
+        positions_with(self.operations_in_use(), o)
     }
 }

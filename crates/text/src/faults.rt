@@ -6,19 +6,19 @@ ghost use Rattle.text.specs.Faults.{number_of};
 #[derive(Clone, Copy, Debug, PartialEq, Eq)]
 pub enum Fault {
     // A text above 4,096 bytes.
-    LongText,
+    LongText = 1,
     // A bad byte, or a digit at a token's start.
-    BadByte,
+    BadByte = 2,
     // A name of 17 or more bytes.
-    LongName,
+    LongName = 3,
     // No text of the grammar goes on so, or the text stops short.
-    Misplaced,
+    Misplaced = 4,
     // A `(` that would make 17 open at once.
-    OpenParentheses,
+    OpenParentheses = 5,
     // The 65th position.
-    Positions,
+    Positions = 6,
     // The 33rd distinct name.
-    Names,
+    Names = 7,
 }
 
 impl Fault {
@@ -26,14 +26,6 @@ impl Fault {
     pub fn number(self) -> u8
         ensures { result ≡ number_of self }
     {
-        match self {
-            Fault::LongText => 1,
-            Fault::BadByte => 2,
-            Fault::LongName => 3,
-            Fault::Misplaced => 4,
-            Fault::OpenParentheses => 5,
-            Fault::Positions => 6,
-            Fault::Names => 7,
-        }
+        self as u8
     }
 }

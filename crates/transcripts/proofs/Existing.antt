@@ -10,8 +10,9 @@ use Rattle.meaning.specs.Line.{Line}
 use Rattle.meaning.proofs.SetLaws.{below_or_not}
 use Rattle.table.specs.Rules.{table_of}
 use Rattle.table.specs.declared.cells.Table.{Table}
-use Rattle.compiler.specs.declared.replies.Reply.{Reply}
-use Rattle.compiler.specs.declared.replies.Reply.TheVariants.{Accepted as Accepts, Refused as Refuses}
+use Rattle.std.specs.Prelude.{Ok, Err}
+use Rattle.text.specs.Faults.{number_of as fault_number}
+use Rattle.compiler.specs.Compiling.{Reply}
 use Rattle.compiler.specs.Computed.{compiled}
 use Rattle.compiler.proofs.CompiledTexts.{compiled_compiles}
 use Rattle.standing.specs.declared.entries.Entry.{Entry}
@@ -63,15 +64,15 @@ talk_exists t s l i a (line ∷ lines) =
 
 short_exists : (input : List ℕ) → length input ≤ 65536 → (r : Reply) → (compiled (text_of input)).reply ≡ r
     → (said : List ℕ) × Transcript input said
-short_exists input short Accepts e =
+short_exists input short (Ok u) e =
     let (x, fits) = (compiled_compiles (text_of input)).accepts.0 (rw e refl) in
     let opens = opening_opens (table_of x) (sound_table (text_of input) x fits) in
     let start = opening_alike (table_of x) (opening (table_of x)) (opening (table_of x)) blanks blanks opens in
     let (replies, talk) = talk_exists (table_of x) (opening (table_of x)) blanks _ start (later_lines input) in
     (path_line (table_of x) ++ replies, path_accepted short x fits replies talk refl)
-short_exists input short (Refuses why) e = (
-  refused_path_line why.number why.place,
-  path_refused short why.number why.place (((compiled_compiles (text_of input)).refuses why.number why.place).0 (rw e refl)) refl,
+short_exists input short (Err why) e = (
+  refused_path_line (fault_number why.fault) why.place,
+  path_refused short (fault_number why.fault) why.place (((compiled_compiles (text_of input)).refuses (fault_number why.fault) why.place).0 (rw e refl)) refl,
 )
 
 pub transcript_exists : TranscriptExists

@@ -9,7 +9,8 @@ use Rattle.table.specs.Soundness.{Sound}
 use Rattle.table.specs.Rules.{table_of}
 use Rattle.compiler.specs.Compiling.{Compiles}
 use Rattle.compiler.specs.declared.replies.Refusal.{Refusal}
-use Rattle.compiler.specs.declared.replies.Reply.TheVariants.{Accepted as Accepts, Refused as Refuses}
+use Rattle.std.specs.Prelude.{Ok, Err}
+use Rattle.text.specs.Faults.{number_of as fault_number}
 use Rattle.compiler.specs.declared.replies.Compiled.{Compiled}
 use Rattle.wording.specs.Lines.{lf, before, lines_of, text_of, later_lines}
 use Rattle.wording.specs.Writing.{Puts}
@@ -32,7 +33,7 @@ module _ (input : List ℕ) (end : ℕ) (told : end ≡ before lf input) (c : Co
   its_own : Compiles (text_of input) c
   its_own = subst (λ s. Compiles s c) (sym (text_is input ∙ ap (λ k. take k input) (sym told))) compiles
 
-  pub table_sound : c.reply ≡ Accepts → Sound c.table
+  pub table_sound : c.reply ≡ Ok tt → Sound c.table
   table_sound e = let (x, fits) = compiles.accepts.0 (rw e refl) in (compiles.its_table x fits).is_sound
 
   -- where the lines behind the path start
@@ -46,7 +47,7 @@ module _ (input : List ℕ) (end : ℕ) (told : end ≡ before lf input) (c : Co
       ∙ sym (later_are input)
 
   module _ {out : List ℕ} {n : ℕ} {after : List ℕ} (short : length input ≤ 65536) where
-    pub prints_accepted : c.reply ≡ Accepts → (from : ℕ) → from ≡ min (end + 1) (length input)
+    pub prints_accepted : c.reply ≡ Ok tt → (from : ℕ) → from ≡ min (end + 1) (length input)
         → Ran c.table (lines_of (drop from input)) out n after → Prints input out n after
     prints_accepted e from at ran =
         let (x, fits) = its_own.accepts.0 (rw e refl) in
@@ -54,7 +55,7 @@ module _ (input : List ℕ) (end : ℕ) (told : end ≡ before lf input) (c : Co
         let ran' : Ran (table_of x) (later_lines input) out n after = rw (← (later from at), ← ruled) ran in
         prints (path_accepted short x fits ran'.said ran'.talk refl) ran'.puts
 
-    pub prints_refused : (why : Refusal) → c.reply ≡ Refuses why → Puts out 0 (refused_path_line why.number why.place) n after
+    pub prints_refused : (why : Refusal) → c.reply ≡ Err why → Puts out 0 (refused_path_line (fault_number why.fault) why.place) n after
         → Prints input out n after
     prints_refused why e puts =
-        prints (path_refused short why.number why.place ((its_own.refuses why.number why.place).0 (rw e refl)) refl) puts
+        prints (path_refused short (fault_number why.fault) why.place ((its_own.refuses (fault_number why.fault) why.place).0 (rw e refl)) refl) puts

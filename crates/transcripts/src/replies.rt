@@ -3,6 +3,7 @@ ghost use Rattle.std.specs.Prelude.{◌++◌, ◌∷◌, [], get_or};
 ghost use Rattle.table.specs.Cells.{names_of};
 ghost use Rattle.wording.specs.Lines.{lf, space};
 ghost use Rattle.wording.specs.Writing.{Puts, decimal};
+ghost use Rattle.text.specs.Faults.{number_of};
 ghost use Rattle.transcripts.specs.Replies.{line_of, refused_line, refused_path_line, path_line, ask_line, grant_fields, finished_line};
 ghost use Rattle.transcripts.specs.Replies.{finish_line, withdraw_line};
 
@@ -30,10 +31,10 @@ pub(crate) fn put_refused(out: &mut [u8], at: usize, number: u8) -> usize
 
 // The path is refused.
 pub(crate) fn put_refused_path(out: &mut [u8], at: usize, why: Refusal) -> usize
-    ensures { Puts out.old at (refused_path_line why.number why.place) result out.new }
+    ensures { Puts out.old at (refused_path_line (number_of why.fault) why.place) result out.new }
 {
     let k = put_bytes(out, at, b"refused ");
-    let k = put_number(out, k, why.number as u64);
+    let k = put_number(out, k, why.fault.number() as u64);
     put_last(out, k, b" at ", why.place as u64)
 }
 
@@ -62,13 +63,7 @@ pub(crate) fn put_ask(out: &mut [u8], at: usize, reply: AskReply) -> usize
 fn put_name(out: &mut [u8], at: usize, table: &Table, operation: Operation) -> usize
     ensures { Puts out.old at (get_or (names_of table.now) operation.0 []) result out.new }
 {
-    let o = operation.0 as usize;
-    if table.names.min(32) <= o {
-        return at.min(out.len());
-    }
-    let from = 16 * o;
-    let to = (from + table.lengths[o] as usize).min(512);
-    put_bytes(out, at, &table.bytes[from..to])
+    put_bytes(out, at, table.name(operation))
 }
 
 // Whom a finish hands the line to, and for what.

@@ -10,7 +10,6 @@ ghost use Rattle.transcripts.specs.Transcript.{Prints};
 use crate::replies::{put_path, put_refused, put_refused_path};
 use crate::talk::talk;
 use compiler::readers::compile;
-use compiler::replies::Reply;
 use lines::held::Line;
 use standing::entries::blank_entry;
 use standing::records::Session;
@@ -72,12 +71,8 @@ pub fn transcript(input: &[u8], out: &mut [u8]) -> usize
     }
     let end = bytes_before(input, LF);
     let compiled = compile(&input[..end]);
-    let reply = compiled.reply;
-    match reply {
-        Reply::Accepted => {
-            let table = compiled.table;
-            run(table, &input[behind(input, end)..], out)
-        }
-        Reply::Refused(why) => put_refused_path(out, 0, why),
+    match compiled.reply {
+        Ok(()) => run(compiled.table, &input[behind(input, end)..], out),
+        Err(why) => put_refused_path(out, 0, why),
     }
 }

@@ -7,7 +7,7 @@ use Rattle.standing.specs.declared.entries.Entry.{Entry}
 use Rattle.standing.specs.declared.records.Session.{Session}
 use Rattle.steps.specs.Answers.{OpenReply, AskReply, FinishReply, WithdrawReply, Answer, open_answer, ask_answer, finish_answer, withdraw_answer}
 use Rattle.steps.proofs.CallsDetermined.{open_determined, ask_determined, finish_determined, withdraw_determined}
-use Rattle.compiler.specs.declared.replies.Reply.{Reply as CompileReply}
+use Rattle.compiler.specs.Compiling.{Reply as CompileReply}
 use Rattle.compiler.specs.declared.replies.Compiled.{Compiled}
 use Rattle.compiler.specs.Compiling.{answer}
 use Rattle.compiler.proofs.CompiledTexts.{compile_determined}

@@ -13,8 +13,8 @@ use Rattle.standing.specs.Soundness.{meets_set}
 use Rattle.steps.specs.Answers.{Answer, open_answer, ask_answer, finish_answer, withdraw_answer}
 use Rattle.steps.specs.Calling.{Serves}
 use Rattle.steps.specs.Steps.{Outcome, freed, picked, hand_on, entry_of, take_back, open_step, ask_step, finish_step, withdraw_step}
-use Rattle.compiler.specs.declared.replies.Reply.{Reply as CompileReply}
-use Rattle.compiler.specs.declared.replies.Reply.TheVariants.{Accepted, Refused}
+use Rattle.compiler.specs.Compiling.{Reply as CompileReply}
+use Rattle.std.specs.Prelude.{Ok, Err}
 use Rattle.compiler.specs.Compiling.{answer, Compiles}
 use Rattle.table.specs.Cells.{zeros}
 use Rattle.table.specs.declared.cells.Table.{Table}
@@ -88,5 +88,5 @@ refused_compile_zeros text t r call number =
     refused_by call.reply call.compiles (λ zero. number (ap (λ (t : Reply). t.number) call.is_reply ∙ zero))
   where
     refused_by : (c : CompileReply) → Compiles text (record { reply = c; table = t }) → (compile_reply_of (answer c)).number ≢ 0 → t ≡ zeros
-    refused_by Accepted compiles never = absurd (never refl)
-    refused_by (Refused m) compiles number = compiles.no_table _ _ ((compiles.refuses _ _).0 refl)
+    refused_by (Ok u) compiles never = absurd (never refl)
+    refused_by (Err m) compiles number = compiles.no_table _ _ ((compiles.refuses _ _).0 refl)

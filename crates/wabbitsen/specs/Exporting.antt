@@ -9,7 +9,7 @@ use Rattle.standing.specs.declared.records.Session.{Session}
 use Rattle.steps.specs.Answers.{OpenReply, AskReply, FinishReply, WithdrawReply, Answer, open_answer, ask_answer, finish_answer, withdraw_answer}
 use Rattle.steps.specs.Answers.Answer.{opened, granted, delayed, finished, handed, withdrawn, refused}
 use Rattle.steps.specs.Calling.{Opens, Asks, Finishes, Withdraws}
-use Rattle.compiler.specs.declared.replies.Reply.{Reply as CompileReply}
+use Rattle.compiler.specs.Compiling.{Reply as CompileReply}
 use Rattle.compiler.specs.Compiling.{Answer as CompileAnswer, answer, Compiles}
 use Rattle.compiler.specs.Compiling.Answer.{accepted, refused as refused_at}
 use Rattle.wabbitsen.specs.declared.records.Record.{Record}

@@ -41,8 +41,8 @@ pub fn compile_reply(reply: CompileReply) -> Reply
     ensures { result ≡ compile_reply_of (answer reply) }
 {
     match reply {
-        CompileReply::Accepted => telling(0, 0, 0),
-        CompileReply::Refused(refusal) => telling(refusal.place, refusal.number, 0),
+        Ok(()) => telling(0, 0, 0),
+        Err(refusal) => telling(refusal.place, refusal.fault.number(), 0),
     }
 }
 

@@ -5,6 +5,6 @@ use Rattle.transcripts.proofs.replies.put_refused_path.Goals as goal
 
 pub returns : goal.returns
 unfolding line_of refused_path_line
-returns c =
+returns c = rw (← c.number.ensures) (
     puts_more c.put_bytes-k.ensures
-    (puts_more c.put_number-k.ensures c.put_last.ensures)
+    (puts_more c.put_number-k.ensures c.put_last.ensures))

@@ -15,19 +15,19 @@ slice_bounds-compile-end c =
 pub run-requires : goal.run-requires
 run-requires c =
     table_sound _ _ c.bytes_before-end.ensures _
-    c.compile-compiled.ensures c.in-Accepted.is
+    c.compile-compiled.ensures c.in-Ok.is
 
-pub returns-in-Accepted : goal.returns-in-Accepted
-returns-in-Accepted c =
+pub returns-in-Ok : goal.returns-in-Ok
+returns-in-Ok c =
     prints_accepted _ _ c.bytes_before-end.ensures _
     c.compile-compiled.ensures
     (omega arith)
-    c.in-Accepted.is _ c.behind.ensures
+    c.in-Ok.is _ c.behind.ensures
     (rw (part_to_end c.args.input.now c.behind.result) at c.run.ensures)
 
-pub returns-in-Refused : goal.returns-in-Refused
-returns-in-Refused c =
+pub returns-in-Err : goal.returns-in-Err
+returns-in-Err c =
     prints_refused _ _ c.bytes_before-end.ensures _
     c.compile-compiled.ensures
     (omega arith) _
-    c.in-Refused.is c.put_refused_path.ensures
+    c.in-Err.is c.put_refused_path.ensures

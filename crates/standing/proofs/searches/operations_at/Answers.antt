@@ -1,4 +1,4 @@
--- `standing::searches::operations_in` meets its contract: it unites the bits of the operations of the set's positions, one after the other.
+-- `standing::searches::operations_at` meets its contract: it unites the bits of the operations of the set's positions, one after the other.
 use mathlib.Core.Path.{◌≡◌, ap, ◌∙◌}
 use native.Mathlib.Omega.{arith}
 use lib.Bits.{bit_or, or_zero_r}
@@ -10,14 +10,14 @@ use Rattle.std.proofs.lemmas.List.{take_min}
 use Rattle.table.proofs.Unions.{turn_united, all_united}
 use Rattle.standing.specs.Searching.{operations_in, bit_of}
 use Rattle.standing.proofs.SmallSets.{bits_of, length_bits, bit_at}
-use Rattle.standing.proofs.searches.operations_in.Goals as goal
-use Rattle.standing.proofs.searches.operations_in.Goals.{then-rest-eq1, else-rest-eq1}
+use Rattle.standing.proofs.searches.operations_at.Goals as goal
+use Rattle.standing.proofs.searches.operations_at.Goals.{then-rest-eq1, else-rest-eq1}
 
 pub loop-operation-preserved : goal.loop-operation-preserved
 unfolding mem
 loop-operation-preserved c =
     let l = c.loop-operation in
-    let used = take c.min.result c.args.operations in
+    let used = c.args.operations.now in
     let i = l.operation-index in
     let turn =
     turn_united (bits_of used) _ l.out l.rest i l.invariant c.if-rest-eq1.out
@@ -31,9 +31,4 @@ loop-operation-preserved c =
 pub returns : goal.returns
 unfolding operations_in
 returns c =
-    let a = c.args in
-    let all : length a.operations ≡ 64 = search rules in
-    let used = take c.min.result a.operations in
-    let same : used ≡ take a.positions a.operations =
-    rw (c.min.ensures, ← all) (take_min a.positions a.operations) in
-    rw (← same) (all_united _ _ _ _ _ c.loop-operation.invariant (omega (arith, length_bits used, c.loop-operation-test.false)))
+    all_united _ _ _ _ _ c.loop-operation.invariant (omega (arith, length_bits c.args.operations.now, c.loop-operation-test.false))
