@@ -28,21 +28,11 @@ fn telling(value: usize, number: u8, granted: u8) -> Reply
     ensures { result ≡ told value number granted }
 {
     Reply {
-        value: value,
+        value,
         terminal: Terminal(0),
         operation: Operation(0),
-        number: number,
-        granted: granted,
-    }
-}
-
-// C's reply, of each of the five.
-pub fn compile_reply(reply: CompileReply) -> Reply
-    ensures { result ≡ compile_reply_of (answer reply) }
-{
-    match reply {
-        Ok(()) => telling(0, 0, 0),
-        Err(refusal) => telling(refusal.place, refusal.fault.number(), 0),
+        number,
+        granted,
     }
 }
 
@@ -53,62 +43,75 @@ fn refusing(refusal: CallRefusal) -> Reply
     telling(0, refusal.number(), 0)
 }
 
-pub fn open_reply(reply: OpenReply) -> Reply
-    ensures { result ≡ reply_of (open_answer reply) }
-{
-    match reply {
-        Ok(()) => telling(0, 0, 0),
-        Err(refusal) => refusing(refusal),
-    }
-}
-
-pub fn ask_reply(reply: AskReply) -> Reply
-    ensures { result ≡ reply_of (ask_answer reply) }
-{
-    match reply {
-        Ok(Ask::Granted) => telling(0, 0, 1),
-        Ok(Ask::Delayed(ahead)) => telling(ahead, 0, 0),
-        Err(refusal) => refusing(refusal),
-    }
-}
-
 // Of a finish that is served.
-fn next_reply(examined: usize, next: Next) -> Reply
+fn finished(examined: usize, next: Next) -> Reply
     ensures { result ≡ reply_of (next_answer examined next) }
 {
     match next {
-        Next::Granted(grant) => {
-            let terminal = grant.terminal;
-            let operation = grant.operation;
-            Reply {
-                value: examined,
-                terminal: terminal,
-                operation: operation,
-                number: 0,
-                granted: 1,
-            }
-        }
+        Next::Granted(grant) => Reply {
+            value: examined,
+            terminal: grant.terminal,
+            operation: grant.operation,
+            number: 0,
+            granted: 1,
+        },
         Next::Nobody => telling(examined, 0, 0),
     }
 }
 
-pub fn finish_reply(reply: FinishReply) -> Reply
-    ensures { result ≡ reply_of (finish_answer reply) }
-{
-    match reply {
-        Ok(finished) => {
-            let next = finished.next;
-            next_reply(finished.examined, next)
+// C's reply, of each of the five.
+impl From<CompileReply> for Reply {
+    ghost from_gives = { λ from reply. reply ≡ compile_reply_of (answer from) };
+
+    fn from(reply: CompileReply) -> Reply {
+        match reply {
+            Ok(()) => telling(0, 0, 0),
+            Err(refusal) => telling(refusal.place, refusal.fault.number(), 0),
         }
-        Err(refusal) => refusing(refusal),
     }
 }
 
-pub fn withdraw_reply(reply: WithdrawReply) -> Reply
-    ensures { result ≡ reply_of (withdraw_answer reply) }
-{
-    match reply {
-        Ok(place) => telling(place, 0, 0),
-        Err(refusal) => refusing(refusal),
+impl From<OpenReply> for Reply {
+    ghost from_gives = { λ from reply. reply ≡ reply_of (open_answer from) };
+
+    fn from(reply: OpenReply) -> Reply {
+        match reply {
+            Ok(()) => telling(0, 0, 0),
+            Err(refusal) => refusing(refusal),
+        }
+    }
+}
+
+impl From<AskReply> for Reply {
+    ghost from_gives = { λ from reply. reply ≡ reply_of (ask_answer from) };
+
+    fn from(reply: AskReply) -> Reply {
+        match reply {
+            Ok(Ask::Granted) => telling(0, 0, 1),
+            Ok(Ask::Delayed(ahead)) => telling(ahead, 0, 0),
+            Err(refusal) => refusing(refusal),
+        }
+    }
+}
+
+impl From<FinishReply> for Reply {
+    ghost from_gives = { λ from reply. reply ≡ reply_of (finish_answer from) };
+
+    fn from(reply: FinishReply) -> Reply {
+        match reply {
+            Ok(served) => finished(served.examined, served.next),
+            Err(refusal) => refusing(refusal),
+        }
+    }
+}
+
+impl From<WithdrawReply> for Reply {
+    ghost from_gives = { λ from reply. reply ≡ reply_of (withdraw_answer from) };
+
+    fn from(reply: WithdrawReply) -> Reply {
+        match reply {
+            Ok(place) => telling(place, 0, 0),
+            Err(refusal) => refusing(refusal),
+        }
     }
 }
