@@ -10,13 +10,7 @@ use lines::held::Line;
 use standing::numbers::{Terminal, least};
 use wording::orders::{LF, Order, bytes_before, read_line};
 
-fn ask_turn(
-    line: &mut Line,
-    terminal: Terminal,
-    name: &[u8],
-    out: &mut [u8],
-    at: usize,
-) -> usize
+fn ask_turn(line: &mut Line, terminal: Terminal, name: &[u8], out: &mut [u8], at: usize) -> usize
     ensures { Replied ask_line (Asks line.old.session line.old.list terminal name.now) out.old at line.new result out.new }
 {
     let reply = line.ask(terminal, name);

@@ -223,12 +223,7 @@ fn opened<W: Write>(out: &mut W, line: &mut Line, table: Table, shows: bool) -> 
     show_open(out, reply, shows)
 }
 
-fn compiled<W: Write>(
-    out: &mut W,
-    line: &mut Line,
-    text: &[u8],
-    shows: bool,
-) -> io::Result<()> {
+fn compiled<W: Write>(out: &mut W, line: &mut Line, text: &[u8], shows: bool) -> io::Result<()> {
     let r = compile(text);
     let reply = r.reply;
     match reply {

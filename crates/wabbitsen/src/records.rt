@@ -1,4 +1,4 @@
-// The session record as C sees it: the state of the line is two cells.
+// The session record as C sees it: who runs is two cells.
 ghost use Rattle.std.specs.Prelude.{◌≡◌};
 ghost use Rattle.wabbitsen.specs.Exporting.{running_in, session_in, terminal_cell, running_cell, holding as holds};
 

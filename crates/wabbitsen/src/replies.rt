@@ -1,13 +1,15 @@
 // What a call replies to C: one struct for all five, by document 01's number and values.
 ghost use Rattle.std.specs.Prelude.{◌≡◌};
-ghost use Rattle.steps.specs.Answers.{number_of, open_answer, ask_answer, next_answer, finish_answer, withdraw_answer};
+ghost use Rattle.steps.specs.Answers.{number_of, open_answer, ask_answer, finish_answer, withdraw_answer};
 ghost use Rattle.steps.specs.Answers.Answer.{refused};
 ghost use Rattle.compiler.specs.Compiling.{answer};
 ghost use Rattle.wabbitsen.specs.Exporting.{told, reply_of, compile_reply_of};
 
 use compiler::replies::Reply as CompileReply;
 use standing::numbers::Terminal;
-use steps::replies::{Ask, AskReply, CallRefusal, FinishReply, Next, OpenReply, WithdrawReply};
+use steps::replies::{
+    Ask, AskReply, CallRefusal, FinishReply, Finished, Next, OpenReply, WithdrawReply,
+};
 use table::numbers::Operation;
 
 // `number` is the number of refusal, or 0 where the call is served. `value` is the place of a refused text, the entries ahead of a
@@ -28,87 +30,85 @@ fn telling(value: usize, number: u8, granted: u8) -> Reply
     ensures { result ≡ told value number granted }
 {
     Reply {
-        value: value,
+        value,
         terminal: Terminal(0),
         operation: Operation(0),
-        number: number,
-        granted: granted,
+        number,
+        granted,
     }
 }
 
 // C's reply, of each of the five.
-pub fn compile_reply(reply: CompileReply) -> Reply
-    ensures { result ≡ compile_reply_of (answer reply) }
-{
-    match reply {
-        CompileReply::Accepted => telling(0, 0, 0),
-        CompileReply::Refused(refusal) => telling(refusal.place, refusal.number, 0),
+impl From<CompileReply> for Reply {
+    ghost from_gives = { λ reply told. told ≡ compile_reply_of (answer reply) };
+
+    fn from(reply: CompileReply) -> Reply {
+        match reply {
+            CompileReply::Accepted => telling(0, 0, 0),
+            CompileReply::Refused(refusal) => telling(refusal.place, refusal.number, 0),
+        }
     }
 }
 
 // Of a call that is refused.
-fn refusing(refusal: CallRefusal) -> Reply
-    ensures { result ≡ reply_of (refused (number_of refusal)) }
-{
-    telling(0, refusal.number(), 0)
-}
+impl From<CallRefusal> for Reply {
+    ghost from_gives = { λ refusal reply. reply ≡ reply_of (refused (number_of refusal)) };
 
-pub fn open_reply(reply: OpenReply) -> Reply
-    ensures { result ≡ reply_of (open_answer reply) }
-{
-    match reply {
-        Ok(()) => telling(0, 0, 0),
-        Err(refusal) => refusing(refusal),
+    fn from(refusal: CallRefusal) -> Reply {
+        telling(0, refusal.number(), 0)
     }
 }
 
-pub fn ask_reply(reply: AskReply) -> Reply
-    ensures { result ≡ reply_of (ask_answer reply) }
-{
-    match reply {
-        Ok(Ask::Granted) => telling(0, 0, 1),
-        Ok(Ask::Delayed(ahead)) => telling(ahead, 0, 0),
-        Err(refusal) => refusing(refusal),
-    }
-}
+impl From<OpenReply> for Reply {
+    ghost from_gives = { λ reply told. told ≡ reply_of (open_answer reply) };
 
-// Of a finish that is served.
-fn next_reply(examined: usize, next: Next) -> Reply
-    ensures { result ≡ reply_of (next_answer examined next) }
-{
-    match next {
-        Next::Granted(grant) => {
-            let terminal = grant.terminal;
-            let operation = grant.operation;
-            Reply {
-                value: examined,
-                terminal: terminal,
-                operation: operation,
-                number: 0,
-                granted: 1,
-            }
+    fn from(reply: OpenReply) -> Reply {
+        match reply {
+            Ok(()) => telling(0, 0, 0),
+            Err(refusal) => refusal.into(),
         }
-        Next::Nobody => telling(examined, 0, 0),
     }
 }
 
-pub fn finish_reply(reply: FinishReply) -> Reply
-    ensures { result ≡ reply_of (finish_answer reply) }
-{
-    match reply {
-        Ok(finished) => {
-            let next = finished.next;
-            next_reply(finished.examined, next)
+impl From<AskReply> for Reply {
+    ghost from_gives = { λ reply told. told ≡ reply_of (ask_answer reply) };
+
+    fn from(reply: AskReply) -> Reply {
+        match reply {
+            Ok(Ask::Granted) => telling(0, 0, 1),
+            Ok(Ask::Delayed(ahead)) => telling(ahead, 0, 0),
+            Err(refusal) => refusal.into(),
         }
-        Err(refusal) => refusing(refusal),
     }
 }
 
-pub fn withdraw_reply(reply: WithdrawReply) -> Reply
-    ensures { result ≡ reply_of (withdraw_answer reply) }
-{
-    match reply {
-        Ok(place) => telling(place, 0, 0),
-        Err(refusal) => refusing(refusal),
+impl From<FinishReply> for Reply {
+    ghost from_gives = { λ reply told. told ≡ reply_of (finish_answer reply) };
+
+    fn from(reply: FinishReply) -> Reply {
+        match reply {
+            Ok(Finished { examined, next }) => match next {
+                Next::Granted(grant) => Reply {
+                    value: examined,
+                    terminal: grant.terminal,
+                    operation: grant.operation,
+                    number: 0,
+                    granted: 1,
+                },
+                Next::Nobody => telling(examined, 0, 0),
+            },
+            Err(refusal) => refusal.into(),
+        }
+    }
+}
+
+impl From<WithdrawReply> for Reply {
+    ghost from_gives = { λ reply told. told ≡ reply_of (withdraw_answer reply) };
+
+    fn from(reply: WithdrawReply) -> Reply {
+        match reply {
+            Ok(place) => telling(place, 0, 0),
+            Err(refusal) => refusal.into(),
+        }
     }
 }
