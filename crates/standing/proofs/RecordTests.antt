@@ -20,17 +20,17 @@ use Rattle.table.proofs.SoundSets.{fit_says}
 use Rattle.std.specs.Prelude.{Option, Some, None}
 use Rattle.standing.specs.declared.numbers.Terminal.{Terminal}
 use Rattle.standing.specs.declared.records.Session.{Session}
-use Rattle.standing.specs.Searching.{state_fits, operations_in, operations_by}
+use Rattle.standing.specs.Searching.{running_fits, operations_in, operations_by}
 use Rattle.standing.specs.Soundness.{RecordSound}
 use Rattle.standing.proofs.Meeting.{in_operations, operations_below}
 use Rattle.standing.proofs.Single.{sole_says}
 use Rattle.standing.proofs.States.{free_not_running, same_runner}
 
 -- while running: what holds of one that runs, where P is what is asked of the set
-state_says : (st : Option Terminal) (os : ℕ) (P : Type 0) → (is_power_of_two os ≡ true) ↔ P
-    → (state_fits st os ≡ true) ↔ (((t : Terminal) → st ≡ Some t → t.0 < 64) × ((t : Terminal) → st ≡ Some t → P))
-state_says None os P sole = (λ h. (λ t e. free_not_running t e, λ t e. free_not_running t e), λ h. refl)
-state_says (Some u) os P sole = (
+running_says : (st : Option Terminal) (os : ℕ) (P : Type 0) → (is_power_of_two os ≡ true) ↔ P
+    → (running_fits st os ≡ true) ↔ (((t : Terminal) → st ≡ Some t → t.0 < 64) × ((t : Terminal) → st ≡ Some t → P))
+running_says None os P sole = (λ h. (λ t e. free_not_running t e, λ t e. free_not_running t e), λ h. refl)
+running_says (Some u) os P sole = (
   λ h.
       let both = (and-eq-true_iff (ltb u.0 64) (is_power_of_two os)).0 h in
       (λ t e. subst (λ (n : ℕ). n < 64) (same_runner u t e) (ltb-true u.0 64 both.0), λ t e. sole.0 both.1),
@@ -72,23 +72,23 @@ module _ (s : Session) (all : length s.table.operations ≡ 64) (sound : TableSo
             ),
       )
 
--- what the program finds of the table, the set, the state and the count, where b says whether the table is sound
+-- what the program finds of the table, the set, who runs and the count, where b says whether the table is sound
 abbrev pub record_test : Session → Bool → Bool
 record_test s b =
-    b && fit_test s.set s.table.positions && state_fits s.running (operations_by s s.set) && leb s.waiting 64
+    b && fit_test s.set s.table.positions && running_fits s.running (operations_by s s.set) && leb s.waiting 64
 
 module _ (s : Session) (all : length s.table.operations ≡ 64) (b : Bool) (table-says : (b ≡ true) ↔ TableSound s.table) where
   tested_sound : record_test s b ≡ true → RecordSound s
   tested_sound h =
       let set_fits = fit_test s.set s.table.positions in
-      let state-fits = state_fits s.running (operations_by s s.set) in
-      let count = (and-eq-true_iff (b && set_fits && state-fits) (leb s.waiting 64)).0 h in
-      let state = (and-eq-true_iff (b && set_fits) state-fits).0 count.0 in
-      let table = (and-eq-true_iff b set_fits).0 state.0 in
+      let running-fits = running_fits s.running (operations_by s s.set) in
+      let count = (and-eq-true_iff (b && set_fits && running-fits) (leb s.waiting 64)).0 h in
+      let running = (and-eq-true_iff (b && set_fits) running-fits).0 count.0 in
+      let table = (and-eq-true_iff b set_fits).0 running.0 in
       let sound = table-says.0 table.0 in
       let fits = (fit_says s.set s.table.positions).0 table.1 in
       let fit : Fit s.table s.set = record { not_empty = fits.0; existing = fits.1 } in
-      let runs = (state_says s.running _ _ (one_operation s all sound fit)).0 state.1 in
+      let runs = (running_says s.running _ _ (one_operation s all sound fit)).0 running.1 in
       record {
         table_sound = sound;
         set_fits = fit;
@@ -103,7 +103,7 @@ module _ (s : Session) (all : length s.table.operations ≡ 64) (b : Bool) (tabl
       rw (
         table-says.1 r.table_sound,
         (fit_says s.set s.table.positions).1 (fit.not_empty, fit.existing),
-        (state_says s.running _ _ (one_operation s all r.table_sound fit)).1 (r.running_below, r.running_one),
+        (running_says s.running _ _ (one_operation s all r.table_sound fit)).1 (r.running_below, r.running_one),
       )
       (le-leb s.waiting 64 r.count_most)
 

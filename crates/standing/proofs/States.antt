@@ -1,4 +1,4 @@
--- The two states of a record, told apart.
+-- A record that is free and one that runs, told apart.
 use mathlib.Core.Path.{◌≡◌, ap, sym}
 use mathlib.Core.Bool.{Bool, true, false, false≢true}
 use Prim.Native.Nat.{ℕ}

@@ -65,9 +65,9 @@ taken_in None = 0
 taken_in (Some t) = bit_of t.0
 
 -- while running, the terminal is below 64 and one operation meets the set
-abbrev pub state_fits : Option Terminal → ℕ → Bool
-state_fits None os = true
-state_fits (Some t) os = ltb t.0 64 && is_power_of_two os
+abbrev pub running_fits : Option Terminal → ℕ → Bool
+running_fits None os = true
+running_fits (Some t) os = ltb t.0 64 && is_power_of_two os
 
 -- what a search starts with: for terminal t, and for the first entry of an operation in w
 unfoldable pub searching : Session → Terminal → ℕ → Search

@@ -50,10 +50,7 @@ fn has(set: u64, n: usize) -> bool
 fn with(set: u64, n: usize) -> u64
     ensures { result ≡ bit_or set (bit_of n) }
 {
-    if 63 < n {
-        return set;
-    }
-    set | (1 << n)
+    if n < 64 { set | (1 << n) } else { set }
 }
 
 // The operations of the places in a set.

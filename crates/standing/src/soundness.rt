@@ -1,6 +1,6 @@
 // Whether a record is sound: "A record and list are sound if ..", the clauses on the record alone.
 ghost use Rattle.std.specs.Prelude.{◌≡◌, true, ◌↔◌};
-ghost use Rattle.standing.specs.Searching.{state_fits};
+ghost use Rattle.standing.specs.Searching.{running_fits};
 ghost use Rattle.standing.specs.Soundness.{RecordSound};
 
 use crate::numbers::Terminal;
@@ -9,8 +9,8 @@ use crate::searches::operations_in;
 use table::soundness::fits;
 
 // While running, the terminal is below 64 and the set has one operation's positions only.
-fn state_fits(running: Option<Terminal>, met: u64) -> bool
-    ensures { result ≡ state_fits running met }
+fn running_fits(running: Option<Terminal>, met: u64) -> bool
+    ensures { result ≡ running_fits running met }
 {
     match running {
         None => true,
@@ -25,6 +25,6 @@ pub fn record_is_sound(session: Session) -> bool
     let table = session.table;
     table.is_sound()
         && fits(session.set, table.positions)
-        && state_fits(session.running, operations_in(&table, session.set))
+        && running_fits(session.running, operations_in(&table, session.set))
         && session.waiting <= 64
 }

@@ -1,4 +1,4 @@
--- What is asked of the entries in use, whatever the set and the state: terminals below 64 and all different, operations that
+-- What is asked of the entries in use, whatever the set and who runs: terminals below 64 and all different, operations that
 -- exist. It stays so where an entry is taken out, since those that are left were there before, at different places; and where
 -- an entry of another terminal is put behind them.
 use mathlib.Core.Path.{◌≡◌}

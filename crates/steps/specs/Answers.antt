@@ -9,7 +9,7 @@ use Rattle.steps.specs.declared.replies.Next.{Next}
 use Rattle.steps.specs.declared.replies.Next.TheVariants.{Granted as Grants, Nobody}
 use Rattle.steps.specs.declared.replies.Finished.{Finished}
 
--- what each call replies
+-- what each call replies: what is said of it where it is served, or the refusal ("Numbers of refusal", 8 to 15)
 abbrev pub OpenReply : Type 0
 OpenReply = Result (Unit {0}) CallRefusal
 

@@ -29,10 +29,7 @@ fn refusal(
     if entries < 64 {
         return Err(CallRefusal::ShortList);
     }
-    if !sound {
-        return Err(CallRefusal::Unsound);
-    }
-    if !found.fits {
+    if !sound || !found.fits {
         return Err(CallRefusal::Unsound);
     }
     if 63 < terminal.0 {

@@ -49,6 +49,7 @@ pub(crate) fn put_path(out: &mut [u8], at: usize, table: Table) -> usize
     put_last(out, k, b" ", table.mark as u64)
 }
 
+#[tactic(auto, unfolding(crate::specs::Replies::ask_line, crate::specs::Replies::line_of))]
 pub(crate) fn put_ask(out: &mut [u8], at: usize, reply: AskReply) -> usize
     ensures { Puts out.old at (ask_line reply) result out.new }
 {
@@ -89,6 +90,7 @@ fn put_finished(out: &mut [u8], at: usize, table: Table, finished: Finished) -> 
     }
 }
 
+#[tactic(auto, unfolding(crate::specs::Replies::finish_line))]
 pub(crate) fn put_finish(out: &mut [u8], at: usize, table: Table, reply: FinishReply) -> usize
     ensures { Puts out.old at (finish_line table reply) result out.new }
 {
@@ -98,6 +100,7 @@ pub(crate) fn put_finish(out: &mut [u8], at: usize, table: Table, reply: FinishR
     }
 }
 
+#[tactic(auto, unfolding(crate::specs::Replies::withdraw_line, crate::specs::Replies::line_of))]
 pub(crate) fn put_withdraw(out: &mut [u8], at: usize, reply: WithdrawReply) -> usize
     ensures { Puts out.old at (withdraw_line reply) result out.new }
 {

@@ -5,7 +5,9 @@ use mathlib.Core.List.{List}
 use Rattle.text.proofs.Determined.{both_equal}
 use Rattle.standing.specs.declared.entries.Entry.{Entry}
 use Rattle.standing.specs.declared.records.Session.{Session}
-use Rattle.steps.specs.Answers.{OpenReply, AskReply, FinishReply, WithdrawReply, Answer, open_answer, ask_answer, finish_answer, withdraw_answer}
+use Rattle.steps.specs.declared.replies.CallRefusal.{CallRefusal}
+use Rattle.steps.specs.Answers.Answer.{refused}
+use Rattle.steps.specs.Answers.{number_of, OpenReply, AskReply, FinishReply, WithdrawReply, Answer, open_answer, ask_answer, finish_answer, withdraw_answer}
 use Rattle.steps.proofs.CallsDetermined.{open_determined, ask_determined, finish_determined, withdraw_determined}
 use Rattle.compiler.specs.Compiling.{Reply as CompileReply}
 use Rattle.compiler.specs.declared.replies.Compiled.{Compiled}
@@ -29,6 +31,10 @@ compile_reply_determined a r r' = both_equal
 
 pub open_reply_determined : (a : OpenReply) (r r' : Reply) → r ≡ reply_of (open_answer a) → r' ≡ reply_of (open_answer a) → r ≡ r'
 open_reply_determined a r r' = both_equal
+
+pub refusal_reply_determined : (e : CallRefusal) (r r' : Reply) → r ≡ reply_of (refused (number_of e)) → r' ≡ reply_of (refused (number_of e))
+    → r ≡ r'
+refusal_reply_determined e r r' = both_equal
 
 pub ask_reply_determined : (a : AskReply) (r r' : Reply) → r ≡ reply_of (ask_answer a) → r' ≡ reply_of (ask_answer a) → r ≡ r'
 ask_reply_determined a r r' = both_equal

@@ -18,7 +18,7 @@ pub fn wabbitsen_compile(text: &[u8], table: &mut Table) -> Reply
 {
     let compiled = compile(text);
     *table = compiled.table;
-    Reply::from(compiled.reply)
+    compiled.reply.into()
 }
 
 // A session over a table is opened.
@@ -29,7 +29,7 @@ pub fn wabbitsen_open(record: &mut Record, list: &mut [Entry], table: &Table) ->
     let mut session = session_in(before);
     let reply = open(&mut session, list, *table);
     *record = holding(before, session);
-    Reply::from(reply)
+    reply.into()
 }
 
 // A terminal asks for the operation of a name.
@@ -45,7 +45,7 @@ pub fn wabbitsen_ask(
     let mut session = session_in(before);
     let reply = ask(&mut session, list, terminal, name);
     *record = holding(before, session);
-    Reply::from(reply)
+    reply.into()
 }
 
 // A terminal finishes what it runs.
@@ -56,7 +56,7 @@ pub fn wabbitsen_finish(record: &mut Record, list: &mut [Entry], terminal: Termi
     let mut session = session_in(before);
     let reply = finish(&mut session, list, terminal);
     *record = holding(before, session);
-    Reply::from(reply)
+    reply.into()
 }
 
 // A terminal withdraws what it asked for.
@@ -67,7 +67,7 @@ pub fn wabbitsen_withdraw(record: &mut Record, list: &mut [Entry], terminal: Ter
     let mut session = session_in(before);
     let reply = withdraw(&mut session, list, terminal);
     *record = holding(before, session);
-    Reply::from(reply)
+    reply.into()
 }
 
 // What `linerun` prints of an input, as far as the output goes; how many bytes that is.

@@ -1,4 +1,4 @@
-// The session record as C sees it: the state of the line is two cells.
+// The session record as C sees it: who runs is two cells.
 ghost use Rattle.std.specs.Prelude.{◌≡◌};
 ghost use Rattle.wabbitsen.specs.Exporting.{running_in, session_in, terminal_cell, running_cell, holding as holds};
 
@@ -21,10 +21,7 @@ pub struct Record {
 fn running_in(before: Record) -> Option<Terminal>
     ensures { result ≡ running_in before }
 {
-    if before.running == 0 {
-        return None;
-    }
-    Some(before.terminal)
+    (before.running != 0).then_some(before.terminal)
 }
 
 // The session that a record stands for.
@@ -52,12 +49,8 @@ fn running_cell(before: Record, running: Option<Terminal>) -> u8
 {
     match running {
         None => 0,
-        Some(_) => {
-            if before.running == 0 {
-                return 1;
-            }
-            before.running
-        }
+        Some(_) if before.running == 0 => 1,
+        Some(_) => before.running,
     }
 }
 

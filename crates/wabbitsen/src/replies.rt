@@ -1,13 +1,15 @@
 // What a call replies to C: one struct for all five, by document 01's number and values.
 ghost use Rattle.std.specs.Prelude.{◌≡◌};
-ghost use Rattle.steps.specs.Answers.{number_of, open_answer, ask_answer, next_answer, finish_answer, withdraw_answer};
+ghost use Rattle.steps.specs.Answers.{number_of, open_answer, ask_answer, finish_answer, withdraw_answer};
 ghost use Rattle.steps.specs.Answers.Answer.{refused};
 ghost use Rattle.compiler.specs.Compiling.{answer};
 ghost use Rattle.wabbitsen.specs.Exporting.{told, reply_of, compile_reply_of};
 
 use compiler::replies::Reply as CompileReply;
 use standing::numbers::Terminal;
-use steps::replies::{Ask, AskReply, CallRefusal, FinishReply, Next, OpenReply, WithdrawReply};
+use steps::replies::{
+    Ask, AskReply, CallRefusal, FinishReply, Finished, Next, OpenReply, WithdrawReply,
+};
 use table::numbers::Operation;
 
 // `number` is the number of refusal, or 0 where the call is served. `value` is the place of a refused text, the entries ahead of a
@@ -36,32 +38,9 @@ fn telling(value: usize, number: u8, granted: u8) -> Reply
     }
 }
 
-// Of a call that is refused.
-fn refusing(refusal: CallRefusal) -> Reply
-    ensures { result ≡ reply_of (refused (number_of refusal)) }
-{
-    telling(0, refusal.number(), 0)
-}
-
-// Of a finish that is served.
-fn finished(examined: usize, next: Next) -> Reply
-    ensures { result ≡ reply_of (next_answer examined next) }
-{
-    match next {
-        Next::Granted(grant) => Reply {
-            value: examined,
-            terminal: grant.terminal,
-            operation: grant.operation,
-            number: 0,
-            granted: 1,
-        },
-        Next::Nobody => telling(examined, 0, 0),
-    }
-}
-
 // C's reply, of each of the five.
 impl From<CompileReply> for Reply {
-    ghost from_gives = { λ from reply. reply ≡ compile_reply_of (answer from) };
+    ghost from_gives = { λ reply told. told ≡ compile_reply_of (answer reply) };
 
     fn from(reply: CompileReply) -> Reply {
         match reply {
@@ -71,47 +50,65 @@ impl From<CompileReply> for Reply {
     }
 }
 
+// Of a call that is refused.
+impl From<CallRefusal> for Reply {
+    ghost from_gives = { λ refusal reply. reply ≡ reply_of (refused (number_of refusal)) };
+
+    fn from(refusal: CallRefusal) -> Reply {
+        telling(0, refusal.number(), 0)
+    }
+}
+
 impl From<OpenReply> for Reply {
-    ghost from_gives = { λ from reply. reply ≡ reply_of (open_answer from) };
+    ghost from_gives = { λ reply told. told ≡ reply_of (open_answer reply) };
 
     fn from(reply: OpenReply) -> Reply {
         match reply {
             Ok(()) => telling(0, 0, 0),
-            Err(refusal) => refusing(refusal),
+            Err(refusal) => refusal.into(),
         }
     }
 }
 
 impl From<AskReply> for Reply {
-    ghost from_gives = { λ from reply. reply ≡ reply_of (ask_answer from) };
+    ghost from_gives = { λ reply told. told ≡ reply_of (ask_answer reply) };
 
     fn from(reply: AskReply) -> Reply {
         match reply {
             Ok(Ask::Granted) => telling(0, 0, 1),
             Ok(Ask::Delayed(ahead)) => telling(ahead, 0, 0),
-            Err(refusal) => refusing(refusal),
+            Err(refusal) => refusal.into(),
         }
     }
 }
 
 impl From<FinishReply> for Reply {
-    ghost from_gives = { λ from reply. reply ≡ reply_of (finish_answer from) };
+    ghost from_gives = { λ reply told. told ≡ reply_of (finish_answer reply) };
 
     fn from(reply: FinishReply) -> Reply {
         match reply {
-            Ok(served) => finished(served.examined, served.next),
-            Err(refusal) => refusing(refusal),
+            Ok(Finished { examined, next }) => match next {
+                Next::Granted(grant) => Reply {
+                    value: examined,
+                    terminal: grant.terminal,
+                    operation: grant.operation,
+                    number: 0,
+                    granted: 1,
+                },
+                Next::Nobody => telling(examined, 0, 0),
+            },
+            Err(refusal) => refusal.into(),
         }
     }
 }
 
 impl From<WithdrawReply> for Reply {
-    ghost from_gives = { λ from reply. reply ≡ reply_of (withdraw_answer from) };
+    ghost from_gives = { λ reply told. told ≡ reply_of (withdraw_answer reply) };
 
     fn from(reply: WithdrawReply) -> Reply {
         match reply {
             Ok(place) => telling(place, 0, 0),
-            Err(refusal) => refusing(refusal),
+            Err(refusal) => refusal.into(),
         }
     }
 }
