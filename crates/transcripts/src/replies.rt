@@ -39,8 +39,8 @@ pub(crate) fn put_refused_path(out: &mut [u8], at: usize, why: Refusal) -> usize
 }
 
 // The path is accepted.
-pub(crate) fn put_path(out: &mut [u8], at: usize, table: Table) -> usize
-    ensures { Puts out.old at (path_line table) result out.new }
+pub(crate) fn put_path(out: &mut [u8], at: usize, table: &Table) -> usize
+    ensures { Puts out.old at (path_line table.now) result out.new }
 {
     let k = put_bytes(out, at, b"path ");
     let k = put_number(out, k, table.positions as u64);

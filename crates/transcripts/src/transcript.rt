@@ -48,7 +48,7 @@ fn run(table: Table, lines: &[u8], out: &mut [u8]) -> usize
     requires { Sound table }
     ensures { Ran table (lines_of lines.now) out.old result out.new }
 {
-    let at = put_path(out, 0, table);
+    let at = put_path(out, 0, &table);
     talk(opened(table), lines, out, at)
 }
 

@@ -4,6 +4,10 @@ use mathlib.Core.List.{List, ◌∷◌}
 use Prim.Native.Nat.{ℕ, ◌+◌, ◌-◌, ◌≤◌, ◌<◌}
 use native.Mathlib.Omega.{arith}
 use borrow.Author.Rules.{part_to_end}
+use borrow.Author.Tests.{ltb-true, ltb-false}
+use mathlib.Core.Bool.{Bool, true, false}
+use lib.Dec.{eqb, ltb}
+use Rattle.std.specs.List.{list_any}
 use lib.ListN.{length, take, drop, length-drop, drop_of_length-le}
 use lib.Seq.{drop-drop}
 use Rattle.text.proofs.Spans.{span_within}
@@ -11,6 +15,7 @@ use Rattle.wording.specs.Lines.{space, before, fields_of}
 use Rattle.wording.specs.Orders.{ask_word, number_in, three_read, ReadsAs}
 use Rattle.wording.specs.declared.orders.Order.{Order}
 use Rattle.wording.specs.declared.orders.Order.TheVariants.{Unreadable}
+use Rattle.wording.proofs.Firsts.{has_first}
 use Rattle.wording.proofs.Fields.{ask_without_name, ask_for_nothing, ask_for_more, asks}
 
 module _ (line : List ℕ) (from k : ℕ) (fits : from ≤ length line)
@@ -52,18 +57,21 @@ module _ (line : List ℕ) (from k : ℕ) (fits : from ≤ length line)
     pub empty_name : length line ≤ at → ReadsAs line (ask_word ∷ fields_of rest) Unreadable
     empty_name h = ask_for_nothing line rest first_inside (sym name_is ∙ drop_of_length-le line h)
 
-    module _ (m : ℕ) (found : m ≡ before space (take (length line - at) (drop at line))) where
-      m_is : m ≡ before space (drop (before space rest + 1) rest)
-      m_is = found ∙ ap (λ s. before space s) (part_to_end line at ∙ name_is)
+    -- behind the name's start: whether there is a space
+    abbrev found : Bool
+    found = list_any (λ b. eqb b space) (take (length line - at) (drop at line))
 
-      pub space_in_name : m < length line - at → ReadsAs line (ask_word ∷ fields_of rest) Unreadable
-      space_in_name h = ask_for_more line rest first_inside (omega (arith, h, m_is, name_long))
+    found_is : found ≡ ltb (before space (drop (before space rest + 1) rest)) (length (drop (before space rest + 1) rest))
+    found_is = ap (λ s. list_any (λ b. eqb b space) s) (part_to_end line at ∙ name_is) ∙ has_first space (drop (before space rest + 1) rest)
 
-      pub whole_ask : at < length line → length line - at ≤ m → (r : Order)
-          → r ≡ three_read (number_in (take (from + k - from) rest)) at → ReadsAs line (ask_word ∷ fields_of rest) r
-      whole_ask some h r e =
-          let digits : from + k - from ≡ before space rest = omega (arith, k_is) in
-          subst (λ o. ReadsAs line (ask_word ∷ fields_of rest) o)
-          (sym (e ∙ ap (λ j. three_read (number_in (take j rest)) at) digits))
-          (asks line rest first_inside at (omega (arith, h, m_is, name_long))
-          (λ none. let short = ap length none in absurd (omega (arith, short, name_long, some))) name_is (omega (arith, some)))
+    pub space_in_name : found ≡ true → ReadsAs line (ask_word ∷ fields_of rest) Unreadable
+    space_in_name h = ask_for_more line rest first_inside (ltb-true _ _ (sym found_is ∙ h))
+
+    pub whole_ask : at < length line → found ≡ false → (r : Order)
+        → r ≡ three_read (number_in (take (from + k - from) rest)) at → ReadsAs line (ask_word ∷ fields_of rest) r
+    whole_ask some h r e =
+        let digits : from + k - from ≡ before space rest = omega (arith, k_is) in
+        subst (λ o. ReadsAs line (ask_word ∷ fields_of rest) o)
+        (sym (e ∙ ap (λ j. three_read (number_in (take j rest)) at) digits))
+        (asks line rest first_inside at (ltb-false _ _ (sym found_is ∙ h))
+        (λ none. let short = ap length none in absurd (omega (arith, short, name_long, some))) name_is (omega (arith, some)))

@@ -1,9 +1,9 @@
--- What `position` and `==` of slices answer, in the words of the lines.
-use Rattle.std.proofs.Common.{◌≡◌, ℕ, Bool, true, false, cond, not, ◌&&◌, List, [], ◌∷◌, Some, None, length, ltb, ◌≤◌, refl, sym, ap, ◌∙◌, arith}
+-- What `position`, `contains` and `==` of slices answer, and where `split_inclusive` cuts one, in the words of the lines.
+use Rattle.std.proofs.Common.{◌≡◌, ℕ, suc, Bool, true, false, cond, not, ◌&&◌, List, [], ◌∷◌, Some, None, length, ltb, ◌≤◌, refl, sym, ap, ◌∙◌, arith}
 use Rattle.std.proofs.lemmas.Grind.{common_steps}
 use Rattle.std.specs.Prelude.{eqb}
 use Rattle.std.specs.Option.{unwrap_or}
-use Rattle.std.specs.List.{position, position_or_len, prefix_len, IsFirstMatchOrLen}
+use Rattle.std.specs.List.{position, position_or_len, prefix_len, list_any, IsFirstMatchOrLen}
 use Rattle.std.specs.Str.{bytes_eq}
 use Rattle.std.proofs.lemmas.List.Sums.{prefix_len-le-length, position_or_len_is}
 use Rattle.std.proofs.lemmas.Bool.{eq-eqb}
@@ -56,3 +56,20 @@ first_match b s i found =
         absurd (false≢true (sym (rw (get_or-eq_default s b (le_refl (length s))) at other) ∙ eq-eqb b b refl)))
         (λ h. h)
         (below_or_not (length s) i)
+
+suc_below : (m n : ℕ) → ltb m n ≡ ltb (suc m) (suc n)
+suc_below m n = grind (arith, common_steps)
+
+some_below : (n : ℕ) → true ≡ ltb 0 (suc n)
+some_below n = grind (arith, common_steps)
+
+-- whether some byte is b
+pub has_first : (b : ℕ) (s : List ℕ) → list_any (λ x. eqb x b) s ≡ ltb (before b s) (length s)
+unfolding span
+has_first b [] = refl
+has_first b (d ∷ s) = go (eqb d b) refl (has_first b s)
+  where
+    go : (t : Bool) → eqb d b ≡ t → list_any (λ x. eqb x b) s ≡ ltb (before b s) (length s)
+        → list_any (λ x. eqb x b) (d ∷ s) ≡ ltb (before b (d ∷ s)) (length (d ∷ s))
+    go true e rest = rw e (some_below (length s))
+    go false e rest = rw (e, rest) (suc_below (before b s) (length s))

@@ -97,7 +97,7 @@ fn read_ask(line: &[u8], from: usize) -> Order
     if line.len() <= name {
         return Order::Unreadable;
     }
-    if bytes_before(&line[name..], SPACE) < line.len() - name {
+    if line[name..].contains(&SPACE) {
         return Order::Unreadable;
     }
     read_three(number_in(&line[from..end]), name)

@@ -1,4 +1,5 @@
 -- `orders::read_ask` meets its contract: each way through it is a law of the fields (AskWays.antt).
+use mathlib.Core.Path.{sym, ◌∙◌}
 use native.Mathlib.Omega.{arith}
 use Rattle.wording.proofs.AskWays.{end_within, no_name, empty_name, space_in_name, whole_ask}
 use Rattle.wording.proofs.orders.read_ask.Goals as goal
@@ -18,16 +19,13 @@ returns-then-line-name c =
     empty_name _ _ _ c.requires c.bytes_before.ensures c.if-line-end.false
     (omega (arith, c.if-line-name.true))
 
-pub returns-then-bytes_before-line : goal.returns-then-bytes_before-line
-returns-then-bytes_before-line c =
-    space_in_name _ _ _ c.requires
-    c.bytes_before.ensures c.if-line-end.false
-    _ c.bytes_before-2.ensures c.if-bytes_before-line.true
+pub returns-then-contains : goal.returns-then-contains
+returns-then-contains c =
+    space_in_name _ _ _ c.requires c.bytes_before.ensures c.if-line-end.false (sym c.contains.ensures.value ∙ c.if-contains.true)
 
 pub returns : goal.returns
 returns c =
     whole_ask _ _ _ c.requires
     c.bytes_before.ensures
-    c.if-line-end.false
-    _ c.bytes_before-2.ensures c.if-line-name.false
-    c.if-bytes_before-line.false _ (rw (← c.number_in.ensures) c.read_three.ensures)
+    c.if-line-end.false c.if-line-name.false
+    (sym c.contains.ensures.value ∙ c.if-contains.false) _ (rw (← c.number_in.ensures) c.read_three.ensures)
