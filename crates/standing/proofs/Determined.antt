@@ -17,9 +17,6 @@ use Rattle.standing.specs.Lists.{blank_entry}
 use Rattle.standing.specs.Searching.{operations_in, examined, looking, looking_next}
 use Rattle.standing.specs.Soundness.{RecordSound}
 
-pub least_determined : (a b r r' : ℕ) → r ≡ min a b → r' ≡ min a b → r ≡ r'
-least_determined a b r r' = both_equal
-
 pub blank_entry_determined : (r r' : Entry) → r ≡ blank_entry → r' ≡ blank_entry → r ≡ r'
 blank_entry_determined r r' = both_equal
 
@@ -38,3 +35,7 @@ look_for_next_determined s t r r' = both_equal
 
 pub record_is_sound_determined : (s : Session) (r r' : Bool) → (r ≡ true) ↔ RecordSound s → (r' ≡ true) ↔ RecordSound s → r ≡ r'
 record_is_sound_determined s r r' = both_decide r r'
+
+-- the lesser of two numbers, as std's `min` answers it
+pub least_determined : (a b r r' : ℕ) → r ≡ min a b → r' ≡ min a b → r ≡ r'
+least_determined a b r r' = both_equal

@@ -11,33 +11,15 @@ use crate::replies::{put_path, put_refused, put_refused_path};
 use crate::talk::talk;
 use compiler::readers::compile;
 use lines::held::Line;
-use standing::entries::blank_entry;
-use standing::records::Session;
-use table::cells::{Table, table_of_zeros};
+use table::cells::Table;
 use wording::orders::{LF, bytes_before};
-
-// Nothing is opened, and nobody waits.
-fn nothing() -> Line
-    ensures { result.list ≡ replicate 64 blank_entry }
-{
-    let session = Session {
-        table: table_of_zeros(),
-        set: 0,
-        running: None,
-        waiting: 0,
-    };
-    Line {
-        session,
-        list: [blank_entry(); 64],
-    }
-}
 
 // A line is opened over a sound table.
 fn opened(table: Table) -> Line
     requires { Sound table }
     ensures { (result.session ≡ opening table) × (result.list ≡ replicate 64 blank_entry) }
 {
-    let mut line = nothing();
+    let mut line = Line::unopened();
     // A sound table is not refused.
     let _ = line.open(table);
     line

@@ -8,13 +8,11 @@ use inputs::read_full;
 use lines::held::Line;
 use standing::entries::{Entry, blank_entry};
 use standing::numbers::Terminal;
-use standing::records::Session;
 use std::io;
 use std::io::Write;
 use steps::replies::{
     Ask, AskReply, CallRefusal, FinishReply, Finished, Next, OpenReply, WithdrawReply,
 };
-use table::cells::table_of_zeros;
 use table::numbers::Operation;
 
 // What ends a line of a script.
@@ -168,26 +166,12 @@ fn turn<W: Write>(out: &mut W, line: &mut Line, s: &[u8]) -> io::Result<()> {
     }
 }
 
-// Nothing opened, nobody waiting.
-fn nothing() -> Line {
-    let session = Session {
-        table: table_of_zeros(),
-        set: 0,
-        running: None,
-        waiting: 0,
-    };
-    Line {
-        session,
-        list: [blank_entry(); 64],
-    }
-}
-
 // The script, from nothing; what stands behind its last line is none.
 fn run<W: Write>(out: &mut W, script: &[u8]) -> io::Result<()> {
     let Some(end) = script.iter().rposition(|b| *b == NEWLINE) else {
         return Ok(());
     };
-    let mut line = nothing();
+    let mut line = Line::unopened();
     for text in script[..end].split(|b| *b == NEWLINE) {
         turn(out, &mut line, text)?;
     }

@@ -1,12 +1,9 @@
 -- `standing::searches::operations_at` meets its contract: it unites the bits of the operations of the set's positions, one after the other.
-use mathlib.Core.Path.{◌≡◌, ap, ◌∙◌}
+use mathlib.Core.Path.{ap, ◌∙◌}
 use native.Mathlib.Omega.{arith}
 use lib.Bits.{bit_or, or_zero_r}
-use lib.ListN.{length, take}
 use borrow.Author.Tests.{eq-eqb, ne_eqb}
-use borrow.Author.Rules.{rules}
 use Rattle.meaning.specs.Sets.{mem}
-use Rattle.std.proofs.lemmas.List.{take_min}
 use Rattle.table.proofs.Unions.{turn_united, all_united}
 use Rattle.standing.specs.Searching.{operations_in, bit_of}
 use Rattle.standing.proofs.SmallSets.{bits_of, length_bits, bit_at}

@@ -5,4 +5,4 @@ use Rattle.transcripts.proofs.transcript.opened.Goals as goal
 pub returns : goal.returns
 returns c =
     opened_blank _ _ _ _ c.«open».result c.requires
-    (rw c.nothing-line.ensures at c.«open».ensures)
+    (rw c.unopened-line.ensures at c.«open».ensures)
