@@ -2,7 +2,7 @@
 use mathlib.Core.Path.{◌≡◌, refl, ap, ◌∙◌}
 use mathlib.Core.List.{List}
 use mathlib.Core.Option.{Option, some, none}
-use Prim.Native.Nat.{ℕ, ◌<◌}
+use Prim.Native.Nat.{ℕ}
 use Rattle.meaning.specs.Words.{Expr}
 use Rattle.grammar.specs.Machine.{Left, State, upward, nothing_left, sum_to}
 use Rattle.grammar.specs.Machine.State.{wanting, having}
@@ -40,9 +40,6 @@ module _ (s : List ℕ) (d : ℕ) (t : Table) where
       )) ends_sequence q given
       (λ a ks. refl) (λ a c ks. refl) (λ c. refl)
 
-  pub expression_refused : (r : Seen) → ExpressionRead ends_sequence s d t r → (r.number ≡ 0 → ⊥) → ExpressionRead ends_expression s d t r
-  expression_refused r = growing.still_refused wanted_sum sum_read either_way s d t ends_sequence ends_expression r
-
   module _ (e : Seen) (given : ExpressionRead ends_sequence s d t e) (z : e.number ≡ 0) where
     pub expression_ends : sequence_from s e.left ≡ Ends → ExpressionRead ends_expression s d t e
     expression_ends is =
@@ -57,12 +54,6 @@ module _ (s : List ℕ) (d : ℕ) (t : Table) where
           growing.next_refused wanted_sum sum_read either_way s d t ends_sequence e given z wanted_run run_read in_order
           turn j on.fits on.less (λ text h u b. on.on text h b.0 b.1)
           t' so-far-is q ends_sequence told ends_expression
-
-      pub sequence_shorter : q.number ≡ 0 → q.left < e.left
-      sequence_shorter =
-          growing.next_shorter wanted_sum sum_read either_way s d t ends_sequence e given z wanted_run run_read in_order
-          turn j on.fits on.less (λ text h u b. on.on text h b.0 b.1)
-          t' so-far-is q ends_sequence told
 
       pub expression_grows : q.number ≡ 0 → (r : Seen) → r ≡ or_read e q → ExpressionRead ends_sequence s d t r
       expression_grows y r joined =

@@ -4,7 +4,7 @@ use mathlib.Core.Path.{◌≡◌, sym, ap, ap₂, subst, ◌∙◌}
 use mathlib.Core.Bool.{Bool, true}
 use mathlib.Core.List.{List, ◌++◌}
 use mathlib.Core.Logic.{inl, inr}
-use Prim.Native.Nat.{ℕ, ◌-◌, ◌≤◌, ◌<◌}
+use Prim.Native.Nat.{ℕ, ◌-◌, ◌≤◌}
 use native.Mathlib.Omega.{arith}
 use lib.ListN.{length, drop, length-drop}
 use Rattle.meaning.specs.Names.{Name}
@@ -24,17 +24,6 @@ use Rattle.compiler.proofs.Joining.{table_so_far}
 
 -- the kind that grows
 module _ {A B : Type 0} (from : A → List Left → State) (to : A → B → List Left → State) (whole : B → Expr) (s : List ℕ) (d : ℕ) (t : Table) where
-  -- a refusal is one, whatever may stand behind a part
-  pub still_refused : (ends ends' : Token → Bool) (r : Seen) → ReadsAs from to whole ends s d t r → (r.number ≡ 0 → ⊥)
-      → ReadsAs from to whole ends' s d t r
-  still_refused ends ends' r given Some-number =
-      record { within = given.within; fewer = given.fewer; outcome = λ ns rs same fine. by ns (given.outcome ns rs same fine) }
-    where
-      by : {W X : Type 0} (ns : List Name) → EitherWay r W ((a : A) → Stops s r d (from a) ns)
-          → EitherWay r X ((a : A) → Stops s r d (from a) ns)
-      by ns (inl (z, went)) = absurd (Some-number z)
-      by ns (inr stopped) = inr stopped
-
   -- a part of the other kind is one of this kind, where the two differ in name only
   module _ {A' B' : Type 0} (from' : A' → List Left → State) (to' : A' → B' → List Left → State) (whole' : B' → Expr)
       (first : A → A') (one : B' → B) (ends : Token → Bool) (f : Seen) (given : ReadsAs from' to' whole' ends s d t f) where
@@ -148,10 +137,6 @@ module _ {A B : Type 0} (from : A → List Left → State) (to : A → B → Lis
                 λ a text ks h k. reaches ns rs here a text ks h k ∙ stops (turn a here.parts) text ks (tail_drop text s
                     h j fits) k,
               )
-
-      -- f is read, and less is left
-      pub next_shorter : f.number ≡ 0 → f.left < q.left
-      next_shorter y = omega (arith, next.fewer y, length-drop j s, less)
 
       -- and what was read is longer by it
       module _ (more : B → B' → B) (to-more : (a : A) (b : B) (c : B') (ks : List Left) → to a (more b c) ks ≡ to' (turn a b) c ks)

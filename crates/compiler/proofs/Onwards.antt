@@ -16,10 +16,10 @@ use Rattle.text.proofs.Reading.{used_within_text}
 use Rattle.grammar.specs.Symbols.Symbol.{semicolon, plus, opening, name}
 use Rattle.grammar.specs.Machine.{Left, step_to, want_step, have_step, depth_of, limit_at, names_on, stepped, limited, onward, upward}
 use Rattle.grammar.specs.Machine.State.{wanting, having}
-use Rattle.compiler.specs.Reading.{Tail, verdict, behind, factor_by, sequence_by, from_by, factor_from, sequence_from, ends_factor, ends_sequence, ends_expression}
+use Rattle.compiler.specs.Reading.{Tail, verdict, behind, factor_by, sequence_by, factor_from, sequence_from, ends_factor, ends_sequence, ends_expression}
 use Rattle.std.specs.Prelude.{Option, Some as At, None as Ends}
 use Rattle.compiler.specs.Reading.{Seen}
-use Rattle.compiler.proofs.Tails.{slice, slice_drops, slice_size}
+use Rattle.compiler.proofs.Tails.{slice, slice_size}
 use Rattle.compiler.proofs.Endings.{behind_fits, behind_symbol}
 use Rattle.compiler.proofs.Verdicts.{is_semicolon, is_plus, is_opening, is_name}
 
@@ -159,9 +159,3 @@ module _ (s : List ℕ) (left : ℕ) (u : Read) (told : u ≡ next_token (slice 
   pub next_fits : left ≤ length s → length s - left + u.used ≤ length s
   next_fits h =
       omega (arith, ap (λ (v : Read). v.used) told, used_within_text (slice s (length s - left)), slice_size s (length s - left))
-
-  pub goes_by : (by : Token → ℕ → ℕ → Option ℕ) (T : Token) → u.token ≡ T → (o : Option ℕ) → o ≡ by T (length s - left) u.used →
-      o ≡ from_by by s left
-  goes_by by T t o is =
-      is ∙ ap (λ (x : Token). by x (length s - left) u.used) (sym t)
-      ∙ ap (λ (v : Read). by v.token (length s - left) v.used) (told ∙ ap next_token (slice_drops s (length s - left)))

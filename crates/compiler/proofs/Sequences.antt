@@ -2,7 +2,7 @@
 use mathlib.Core.Path.{◌≡◌, refl, ap, ◌∙◌}
 use mathlib.Core.List.{List}
 use mathlib.Core.Option.{Option, some, none}
-use Prim.Native.Nat.{ℕ, ◌<◌}
+use Prim.Native.Nat.{ℕ}
 use Rattle.meaning.specs.Words.{Expr}
 use Rattle.grammar.specs.Machine.{Left, State, onward, then_after}
 use Rattle.grammar.specs.Machine.State.{wanting, having}
@@ -42,9 +42,6 @@ module _ (s : List ℕ) (d : ℕ) (t : Table) where
       growing.starts wanted_run run_read in_order s d t wanted was_read (λ f. f) (λ sum. on_sum sum none) (λ f. (none, f)) ends_factor f given
       (λ a ks. refl) (λ a c ks. refl) (λ c. refl)
 
-  pub sequence_refused : (r : Seen) → SequenceRead ends_factor s d t r → (r.number ≡ 0 → ⊥) → SequenceRead ends_sequence s d t r
-  sequence_refused r = growing.still_refused wanted_run run_read in_order s d t ends_factor ends_sequence r
-
   module _ (q : Seen) (given : SequenceRead ends_factor s d t q) (z : q.number ≡ 0) where
     pub sequence_ends : factor_from s q.left ≡ Ends → SequenceRead ends_sequence s d t q
     sequence_ends e =
@@ -58,12 +55,6 @@ module _ (s : List ℕ) (d : ℕ) (t : Table) where
           growing.next_refused wanted_run run_read in_order s d t ends_factor q given z wanted was_read (λ f. f)
           turn j on.fits on.less (λ text h sum b. on.on text h (on_sum sum b.0) b.1)
           t' so-far-is f ends_factor told ends_sequence
-
-      pub factor_shorter : f.number ≡ 0 → f.left < q.left
-      factor_shorter =
-          growing.next_shorter wanted_run run_read in_order s d t ends_factor q given z wanted was_read (λ f. f)
-          turn j on.fits on.less (λ text h sum b. on.on text h (on_sum sum b.0) b.1)
-          t' so-far-is f ends_factor told
 
       pub sequence_grows : f.number ≡ 0 → (r : Seen) → r ≡ then_read q f → SequenceRead ends_factor s d t r
       sequence_grows y r joined =

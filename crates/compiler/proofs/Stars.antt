@@ -1,6 +1,5 @@
 -- Stars, read one after the other: each takes the machine from a factor to the same factor starred once more.
 use mathlib.Core.Path.{◌≡◌, refl, sym, ap, ◌∙◌}
-use mathlib.Core.Bool.{true}
 use mathlib.Core.List.{List}
 use Prim.Native.Nat.{ℕ, suc, ◌+◌, ◌-◌, ◌≤◌, ◌<◌}
 use native.Mathlib.Omega.{arith}
@@ -17,7 +16,7 @@ use Rattle.grammar.specs.Symbols.Symbol.{asterisk}
 use Rattle.grammar.specs.Machine.{Left, step_to, have_step, depth_of, limit_at, names_on, stepped, limited}
 use Rattle.grammar.specs.Machine.State.{having}
 use Rattle.parts.specs.Progress.{star_times}
-use Rattle.compiler.specs.Reading.{Goes, Tail, StarsRead, verdict, ends_factor}
+use Rattle.compiler.specs.Reading.{Goes, Tail, verdict}
 use Rattle.compiler.proofs.Tails.{slice, slice_drops, tail_drop}
 use Rattle.compiler.proofs.Verdicts.{is_asterisk, verdict_symbol}
 use Rattle.compiler.proofs.Endings.{moves}
@@ -83,15 +82,4 @@ module _ (s : List ℕ) (used : ℕ) (far : StarsSoFar s used) where
               ∙ star_goes text at (tail_drop text s h used far.within) star l (star_times far.times f) ks ns
               ∙ ap (λ (k : ℕ). verdict text k (having l (star_times (suc far.times) f) ks) ns)
               (ap (λ (q : Read). length at - q.used) (sym next_at) ∙ ap (λ (k : ℕ). k - r.used) size_at ∙ left);
-        }
-
-    pub stars_end : ends_factor r.token ≡ true → StarsRead s used
-    unfolding at
-    stars_end e =
-        record {
-          within = far.within;
-          times = far.times;
-          some_if = far.some_if;
-          ends = ap (λ (q : Read). ends_factor q.token) (sym next_at) ∙ e;
-          goes = far.goes;
         }

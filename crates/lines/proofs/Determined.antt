@@ -9,7 +9,9 @@ use Rattle.standing.specs.declared.records.Session.{Session}
 use Rattle.steps.specs.Answers.{OpenReply, AskReply, FinishReply, WithdrawReply}
 use Rattle.steps.specs.Calling.{Opens, Asks, Finishes, Withdraws}
 use Rattle.steps.proofs.CallsDetermined.{open_determined, ask_determined, finish_determined, withdraw_determined}
+use Rattle.text.proofs.Determined.{both_equal}
 use Rattle.lines.specs.declared.held.Line.{Line}
+use Rattle.lines.specs.Held.{unopened}
 
 -- a line, put together: equal parts make equal wholes
 abbrev packed : Session → List Entry → Line
@@ -34,3 +36,6 @@ finish_line_determined n m m' t r r' o o' = parts_equal _ _ _ _ _ _ (finish_dete
 pub withdraw_line_determined : (n m m' : Line) (t : Terminal) (r r' : WithdrawReply)
     → Withdraws n.session n.list t r m.session m.list → Withdraws n.session n.list t r' m'.session m'.list → (r ≡ r') × (m ≡ m')
 withdraw_line_determined n m m' t r r' o o' = parts_equal _ _ _ _ _ _ (withdraw_determined _ _ _ _ _ _ t _ _ o o')
+
+pub unopened_determined : (r r' : Line) → r ≡ unopened → r' ≡ unopened → r ≡ r'
+unopened_determined r r' = both_equal

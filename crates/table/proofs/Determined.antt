@@ -2,10 +2,10 @@
 -- equation with a definition, or says exactly when the answer is true.
 use mathlib.Core.Path.{◌≡◌}
 use mathlib.Core.Bool.{Bool, true}
-use mathlib.Core.List.{List}
+use mathlib.Core.List.{List, []}
 use mathlib.Core.Logic.{◌↔◌}
 use Prim.Native.Nat.{ℕ}
-use lib.ListN.{take}
+use lib.ListN.{take, get_or}
 use Rattle.meaning.specs.Names.{key}
 use Rattle.meaning.specs.Sets.{meeting, union_of}
 use Rattle.meaning.proofs.SetLaws.{both_decide}
@@ -14,7 +14,7 @@ use Rattle.std.specs.Prelude.{Option}
 use Rattle.table.specs.declared.numbers.Operation.{Operation}
 use Rattle.table.specs.declared.numbers.Position.{Position}
 use Rattle.table.specs.declared.cells.Table.{Table}
-use Rattle.table.specs.Cells.{zeros, spellings}
+use Rattle.table.specs.Cells.{zeros, spellings, names_of}
 use Rattle.table.specs.Following.{positions_with, found_in}
 use Rattle.table.specs.Linking.{single, linked}
 use Rattle.table.specs.Marks.{mark_of}
@@ -55,3 +55,10 @@ is_sound_determined t r r' = both_decide r r'
 
 pub fits_determined : (s n : ℕ) (r r' : Bool) → r ≡ fit_test s n → r' ≡ fit_test s n → r ≡ r'
 fits_determined s n r r' = both_equal
+
+pub operations_in_use_determined : (t : Table) (r r' : List Operation) → r ≡ take t.positions t.operations
+    → r' ≡ take t.positions t.operations → r ≡ r'
+operations_in_use_determined t r r' = both_equal
+
+pub name_determined : (t : Table) (o : Operation) (r r' : List ℕ) → r ≡ get_or (names_of t) o.0 [] → r' ≡ get_or (names_of t) o.0 [] → r ≡ r'
+name_determined t o r r' = both_equal

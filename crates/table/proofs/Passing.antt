@@ -1,21 +1,13 @@
 -- Tests, and tests of every number in a range. A loop that goes through the range and leaves it at the first that fails keeps an
 -- equation: what the whole range says is what the numbers from p on say. And the test of a range is true exactly if each test is.
-use mathlib.Core.Path.{◌≡◌, refl, sym, ◌∙◌}
-use mathlib.Core.Bool.{Bool, true, false, not, ◌&&◌, and-eq-true_iff}
+use mathlib.Core.Path.{◌≡◌, refl}
+use mathlib.Core.Bool.{Bool, true, false, ◌&&◌, and-eq-true_iff}
 use mathlib.Core.Logic.{⊎_elim}
 use Prim.Native.Nat.{ℕ, zero, suc, ◌+◌, ◌-◌, ◌≤◌, ◌<◌}
 use native.Mathlib.Numerals.{add-one}
 use native.Mathlib.Omega.{arith}
-use borrow.Author.Tests.{not-true, not-false}
 use Rattle.meaning.proofs.SetLaws.{below_or_not}
 use Rattle.table.specs.Tests.{passing, each}
-
--- a test that the program makes by a call, as the branch on `!call` tells it
-pub test_passed : {r x : Bool} → r ≡ x → not r ≡ false → x ≡ true
-test_passed {r} e h = sym e ∙ not-false r h
-
-pub test_failed : {r x : Bool} → r ≡ x → not r ≡ true → x ≡ false
-test_failed {r} e h = sym e ∙ not-true r h
 
 module _ (test : ℕ → Bool) where
   module _ (p to : ℕ) (h : p < to) where

@@ -8,7 +8,7 @@ use native.Mathlib.Omega.{arith}
 use lib.ListN.{length, take, drop, get_or, length-drop}
 use lib.Seq.{drop-drop}
 use Rattle.table.specs.Cells.{spellings}
-use Rattle.table.proofs.Taking.{take_capped}
+use Rattle.std.proofs.lemmas.List.{take_min}
 
 pub length_spellings : (lengths bytes : List ℕ) → length (spellings lengths bytes) ≡ length lengths
 unfolding spellings
@@ -31,4 +31,4 @@ pub spelling_read : (i to : ℕ) (lengths bytes : List ℕ) → length lengths �
 spelling_read i to lengths bytes all every there e =
     let n = get_or lengths i 0 in
     let count : to - 16 * i ≡ min n (length (drop (16 * i) bytes)) = simp length-drop (omega arith) in
-    rw (spelling_at lengths bytes i (omega arith), count) (take_capped n (drop (16 * i) bytes))
+    rw (spelling_at lengths bytes i (omega arith), count) (take_min n (drop (16 * i) bytes))

@@ -1,5 +1,5 @@
 -- Faults and their numbers: each number is one fault's, and none is 0.
-use Rattle.std.proofs.Common.{◌≡◌, ℕ, refl, sym, ap, ◌∙◌, arith}
+use Rattle.std.proofs.Common.{◌≡◌, refl, sym, ap, ◌∙◌, arith}
 use Rattle.text.specs.Faults.{number_of, numbered}
 use Rattle.text.specs.declared.faults.Fault.{Fault}
 use Rattle.text.specs.declared.faults.Fault.TheVariants.{LongText, BadByte, LongName, Misplaced, OpenParentheses, Positions, Names}

@@ -12,7 +12,7 @@ use Rattle.std.specs.List.{IsFirstMatchOrLen}
 use Rattle.std.proofs.lemmas.List.{take-take, take_at, drop_at}
 use Rattle.meaning.proofs.SetLaws.{below_or_not}
 use Rattle.text.specs.Tokens.{span}
-use Rattle.table.proofs.Taking.{take_capped}
+use Rattle.std.proofs.lemmas.List.{take_min}
 use Rattle.wording.specs.Lines.{lf, before, lines_of}
 use Rattle.wording.proofs.Firsts.{first_match}
 use Rattle.wording.proofs.Pieces.{no_lines, first_line}
@@ -49,7 +49,7 @@ pub line_cut : (s x rest : List ℕ) (i b : ℕ) → s ≡ x ++ rest → length 
 line_cut s x rest i b parts long found some told =
     let at : i ≡ before lf s = first_match lf s i found in
     let x-is : x ≡ take (before lf s + 1) s =
-    sym (rw (← parts) at (take_at x rest (length x) refl)) ∙ ap (λ k. take k s) long ∙ take_capped (i + 1) s ∙ ap (λ k. take (k + 1) s) at
+    sym (rw (← parts) at (take_at x rest (length x) refl)) ∙ ap (λ k. take k s) long ∙ take_min (i + 1) s ∙ ap (λ k. take (k + 1) s) at
     in
     let rest-is : rest ≡ drop (before lf s + 1) s =
     sym (rw (← parts) at (drop_at x rest (length x) refl)) ∙ ap (λ k. drop k s) long ∙ drop_capped (i + 1) s ∙ ap (λ k. drop (k + 1) s) at
