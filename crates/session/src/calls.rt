@@ -7,7 +7,7 @@ use standing::entries::Entry;
 use standing::numbers::Terminal;
 use standing::records::Session;
 use standing::searches::{look_for, look_for_next};
-use steps::calls::{asked, finished, opened, withdrawn};
+use steps::calls::{Lent, opened};
 use steps::replies::{AskReply, FinishReply, OpenReply, WithdrawReply};
 use table::cells::Table;
 
@@ -25,8 +25,12 @@ pub fn ask(session: &mut Session, list: &mut [Entry], terminal: Terminal, name: 
     ensures { Asks session.old list.old terminal name.now result session.new list.new }
 {
     let before = *session;
-    let found = find(list, before.waiting, look_for(before, terminal));
-    let asked = asked(before, list.len(), found, terminal, name)?;
+    let lent = Lent {
+        session: before,
+        entries: list.len(),
+        found: find(list, before.waiting, look_for(before, terminal)),
+    };
+    let asked = lent.asked(terminal, name)?;
     *session = asked.session;
     append(list, asked.place, asked.entry);
     Ok(asked.reply)
@@ -37,8 +41,12 @@ pub fn finish(session: &mut Session, list: &mut [Entry], terminal: Terminal) -> 
     ensures { Finishes session.old list.old terminal result session.new list.new }
 {
     let before = *session;
-    let found = find(list, before.waiting, look_for_next(before, terminal));
-    let handed = finished(before, list.len(), found, terminal)?;
+    let lent = Lent {
+        session: before,
+        entries: list.len(),
+        found: find(list, before.waiting, look_for_next(before, terminal)),
+    };
+    let handed = lent.finished(terminal)?;
     *session = handed.session;
     take_out(list, handed.used, handed.place);
     Ok(handed.reply)
@@ -49,8 +57,12 @@ pub fn withdraw(session: &mut Session, list: &mut [Entry], terminal: Terminal) -
     ensures { Withdraws session.old list.old terminal result session.new list.new }
 {
     let before = *session;
-    let found = find(list, before.waiting, look_for(before, terminal));
-    let withdrawn = withdrawn(before, list.len(), found, terminal)?;
+    let lent = Lent {
+        session: before,
+        entries: list.len(),
+        found: find(list, before.waiting, look_for(before, terminal)),
+    };
+    let withdrawn = lent.withdrawn(terminal)?;
     *session = withdrawn.session;
     take_out(list, withdrawn.used, withdrawn.place);
     Ok(withdrawn.place)

@@ -1,5 +1,4 @@
-// The calls, by value: each tests in number order, and then does its core step; where it is refused nothing changes. `entries` is the length
-// of the lent list, `found` what looking through the entries in use has found.
+// The calls, by value: each tests in number order, and then does its core step; where it is refused nothing changes.
 ghost use Rattle.std.specs.Prelude.{◌≡◌};
 ghost use Rattle.steps.specs.Values.{runs_in, Decided, first_refusal, ask_known, OpenedBy, AskedBy, FinishedBy, WithdrawnBy};
 ghost use Rattle.standing.specs.Soundness.{RecordSound};
@@ -14,34 +13,92 @@ use standing::searches::Search;
 use standing::soundness::record_is_sound;
 use table::cells::Table;
 
-// 8, 9 or 10, whichever comes first.
-#[tactic(auto, unfolding(crate::specs::Values::first_refusal))]
-fn refusal(
-    session: Session,
-    entries: usize,
-    found: Search,
-    terminal: Terminal,
-) -> Result<(), CallRefusal>
-    ensures { Decided (RecordSound session) (λ sound. first_refusal sound entries found terminal) result }
-{
-    // Known before 8 is tested, so that one value says it in every reply; no reply depends on the order.
-    let sound = record_is_sound(session);
-    if entries < 64 {
-        return Err(CallRefusal::ShortList);
-    }
-    if !sound || !found.fits {
-        return Err(CallRefusal::Unsound);
-    }
-    if 63 < terminal.0 {
-        return Err(CallRefusal::NoTerminal);
-    }
-    Ok(())
+// What a call is lent, by value: the record, how many entries the list has, and what looking through those in use has found.
+#[derive(Clone, Copy)]
+pub struct Lent {
+    pub session: Session,
+    pub entries: usize,
+    pub found: Search,
 }
 
-fn runs(session: Session, terminal: Terminal) -> bool
-    ensures { result ≡ runs_in session.running terminal }
-{
-    session.running == Some(terminal)
+impl Lent {
+    // 8, 9 or 10, whichever comes first.
+    #[tactic(auto, unfolding(crate::specs::Values::first_refusal))]
+    fn refusal(self, terminal: Terminal) -> Result<(), CallRefusal>
+        ensures { Decided (RecordSound self.session) (λ sound. first_refusal sound self.entries self.found terminal) result }
+    {
+        // Known before 8 is tested, so that one value says it in every reply; no reply depends on the order.
+        let sound = record_is_sound(self.session);
+        if self.entries < 64 {
+            return Err(CallRefusal::ShortList);
+        }
+        if !sound || !self.found.fits {
+            return Err(CallRefusal::Unsound);
+        }
+        if 63 < terminal.0 {
+            return Err(CallRefusal::NoTerminal);
+        }
+        Ok(())
+    }
+
+    fn runs(self, terminal: Terminal) -> bool
+        ensures { result ≡ runs_in self.session.running terminal }
+    {
+        self.session.running == Some(terminal)
+    }
+
+    // An ask for an operation that exists.
+    #[tactic(auto, unfolding(crate::specs::Values::ask_known))]
+    fn ask_known(self, e: Entry) -> Result<Asked, CallRefusal>
+        ensures { result ≡ ask_known self.session self.entries self.found e }
+    {
+        if self.runs(e.terminal) {
+            return Err(CallRefusal::Running);
+        }
+        if self.found.own.is_some() {
+            return Err(CallRefusal::Waiting);
+        }
+        Ok(ask_step(self.session, self.entries, e))
+    }
+
+    // An ask: 8 to 13, then its step.
+    #[tactic(auto, unfolding(crate::specs::Values::ask_value))]
+    pub fn asked(self, terminal: Terminal, name: &[u8]) -> Result<Asked, CallRefusal>
+        ensures { AskedBy self.session self.entries self.found terminal name.now result }
+    {
+        self.refusal(terminal)?;
+        match self.session.table.find(name) {
+            None => Err(CallRefusal::NoOperation),
+            Some(operation) => self.ask_known(Entry {
+                terminal,
+                operation,
+            }),
+        }
+    }
+
+    // A finish: 8, 9, 10, 14, then its step.
+    #[tactic(auto, unfolding(crate::specs::Values::finish_value))]
+    pub fn finished(self, terminal: Terminal) -> Result<Handed, CallRefusal>
+        ensures { FinishedBy self.session self.entries self.found terminal result }
+    {
+        self.refusal(terminal)?;
+        if !self.runs(terminal) {
+            return Err(CallRefusal::NotRunning);
+        }
+        Ok(finish_step(self.session, self.found.first))
+    }
+
+    // A withdrawal: 8, 9, 10, 15, then its step.
+    #[tactic(auto, unfolding(crate::specs::Values::withdraw_value))]
+    pub fn withdrawn(self, terminal: Terminal) -> Result<Withdrawn, CallRefusal>
+        ensures { WithdrawnBy self.session self.entries self.found terminal result }
+    {
+        self.refusal(terminal)?;
+        match self.found.own {
+            None => Err(CallRefusal::NotWaiting),
+            Some(w) => Ok(withdraw_step(self.session, w.place)),
+        }
+    }
 }
 
 // An opening over a table: 8, 9, then free, the start set, and nobody waits.
@@ -58,83 +115,4 @@ pub fn opened(entries: usize, table: Table) -> Result<Session, CallRefusal>
         return Err(CallRefusal::Unsound);
     }
     Ok(open_step(table))
-}
-
-// An ask for an operation that exists.
-#[tactic(auto, unfolding(crate::specs::Values::ask_known))]
-fn ask_known(
-    session: Session,
-    entries: usize,
-    found: Search,
-    e: Entry,
-) -> Result<Asked, CallRefusal>
-    ensures { result ≡ ask_known session entries found e }
-{
-    if runs(session, e.terminal) {
-        return Err(CallRefusal::Running);
-    }
-    if found.own.is_some() {
-        return Err(CallRefusal::Waiting);
-    }
-    Ok(ask_step(session, entries, e))
-}
-
-// An ask: 8 to 13, then its step.
-#[tactic(auto, unfolding(crate::specs::Values::ask_value))]
-pub fn asked(
-    session: Session,
-    entries: usize,
-    found: Search,
-    terminal: Terminal,
-    name: &[u8],
-) -> Result<Asked, CallRefusal>
-    ensures { AskedBy session entries found terminal name.now result }
-{
-    refusal(session, entries, found, terminal)?;
-    match session.table.find(name) {
-        None => Err(CallRefusal::NoOperation),
-        Some(operation) => ask_known(
-            session,
-            entries,
-            found,
-            Entry {
-                terminal,
-                operation,
-            },
-        ),
-    }
-}
-
-// A finish: 8, 9, 10, 14, then its step.
-#[tactic(auto, unfolding(crate::specs::Values::finish_value))]
-pub fn finished(
-    session: Session,
-    entries: usize,
-    found: Search,
-    terminal: Terminal,
-) -> Result<Handed, CallRefusal>
-    ensures { FinishedBy session entries found terminal result }
-{
-    refusal(session, entries, found, terminal)?;
-    if !runs(session, terminal) {
-        return Err(CallRefusal::NotRunning);
-    }
-    Ok(finish_step(session, found.first))
-}
-
-// A withdrawal: 8, 9, 10, 15, then its step.
-#[tactic(auto, unfolding(crate::specs::Values::withdraw_value))]
-pub fn withdrawn(
-    session: Session,
-    entries: usize,
-    found: Search,
-    terminal: Terminal,
-) -> Result<Withdrawn, CallRefusal>
-    ensures { WithdrawnBy session entries found terminal result }
-{
-    refusal(session, entries, found, terminal)?;
-    match found.own {
-        None => Err(CallRefusal::NotWaiting),
-        Some(w) => Ok(withdraw_step(session, w.place)),
-    }
 }

@@ -7,7 +7,7 @@ use Rattle.session.proofs.calls.ask.Goals as goal
 pub returns-in_err-asked : goal.returns-in_err-asked
 returns-in_err-asked c =
     let p = err_from_is_err_and c.from_residual.result c.from_residual.ensures.1 in
-    rw (p.1, p.2) (ask_asks _ _ _ _ _ _ (rw (← c.look_for.ensures) c.find-found.ensures) c.in_err-asked.ensures)
+    rw (p.1, p.2) (ask_asks _ _ _ _ _ _ (rw (← c.look_for.ensures) c.find.ensures) c.in_err-asked.ensures)
 
 pub returns : goal.returns
-returns c = rw c.append.ensures (ask_asks _ _ _ _ _ _ (rw (← c.look_for.ensures) c.find-found.ensures) c.in_ok-asked.ensures)
+returns c = rw c.append.ensures (ask_asks _ _ _ _ _ _ (rw (← c.look_for.ensures) c.find.ensures) c.in_ok-asked.ensures)

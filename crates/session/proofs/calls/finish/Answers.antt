@@ -7,7 +7,7 @@ use Rattle.session.proofs.calls.finish.Goals as goal
 pub returns-in_err-handed : goal.returns-in_err-handed
 returns-in_err-handed c =
     let p = err_from_is_err_and c.from_residual.result c.from_residual.ensures.1 in
-    rw (p.1, p.2) (finish_finishes _ _ _ _ _ (rw (← c.look_for_next.ensures) c.find-found.ensures) c.in_err-handed.ensures)
+    rw (p.1, p.2) (finish_finishes _ _ _ _ _ (rw (← c.look_for_next.ensures) c.find.ensures) c.in_err-handed.ensures)
 
 pub returns : goal.returns
-returns c = rw c.take_out.ensures (finish_finishes _ _ _ _ _ (rw (← c.look_for_next.ensures) c.find-found.ensures) c.in_ok-handed.ensures)
+returns c = rw c.take_out.ensures (finish_finishes _ _ _ _ _ (rw (← c.look_for_next.ensures) c.find.ensures) c.in_ok-handed.ensures)

@@ -7,7 +7,7 @@ use Rattle.session.proofs.calls.withdraw.Goals as goal
 pub returns-in_err-withdrawn : goal.returns-in_err-withdrawn
 returns-in_err-withdrawn c =
     let p = err_from_is_err_and c.from_residual.result c.from_residual.ensures.1 in
-    rw (p.1, p.2) (withdraw_withdraws _ _ _ _ _ (rw (← c.look_for.ensures) c.find-found.ensures) c.in_err-withdrawn.ensures)
+    rw (p.1, p.2) (withdraw_withdraws _ _ _ _ _ (rw (← c.look_for.ensures) c.find.ensures) c.in_err-withdrawn.ensures)
 
 pub returns : goal.returns
-returns c = rw c.take_out.ensures (withdraw_withdraws _ _ _ _ _ (rw (← c.look_for.ensures) c.find-found.ensures) c.in_ok-withdrawn.ensures)
+returns c = rw c.take_out.ensures (withdraw_withdraws _ _ _ _ _ (rw (← c.look_for.ensures) c.find.ensures) c.in_ok-withdrawn.ensures)
