@@ -9,10 +9,11 @@ use Rattle.standing.specs.declared.entries.Entry.{Entry}
 use Rattle.standing.specs.declared.records.Session.{Session}
 use Rattle.steps.specs.Calling.{Asks, Finishes, Withdraws}
 use Rattle.wording.specs.Orders.{call_of, call_read, name_start, Reads}
-use Rattle.wording.specs.Writing.{Puts}
+use Rattle.wording.specs.Writing.{Writes}
 use Rattle.wording.specs.declared.orders.Asking.{Asking}
 use Rattle.wording.specs.declared.orders.Order.{Order}
 use Rattle.wording.specs.declared.orders.Order.TheVariants.{Ask, Finish, Withdraw, Unreadable}
+use Rattle.wording.specs.declared.writing.Output.{Output}
 use Rattle.lines.specs.declared.held.Line.{Line}
 use Rattle.transcripts.specs.Replies.{refused_line, ask_line, finish_line, withdraw_line}
 use Rattle.transcripts.specs.Transcript.{Says}
@@ -27,10 +28,10 @@ call_is : (text : List ℕ) (o p : Order) → Reads text o → o ≡ p → call_
 unfolding call_of
 call_is text o p reads e = sym reads.call ∙ ap (call_read text) e
 
-module _ {s : Session} {l : List Entry} {text out : List ℕ} {at : ℕ} {n : Line} {k : ℕ} {after : List ℕ} (o : Order) (reads : Reads text o) where
+module _ {s : Session} {l : List Entry} {text : List ℕ} {before after : Output} {n : Line} (o : Order) (reads : Reads text o) where
   pub ask_turned : (a : Asking) → o ≡ Ask a
-      → Replied ask_line (Asks s l a.terminal (take (length text - a.from) (drop a.from text))) out at n k after
-      → Turned s l text out at n k after
+      → Replied ask_line (Asks s l a.terminal (take (length text - a.from) (drop a.from text))) before n after
+      → Turned s l text before n after
   ask_turned a e did =
       record {
         said = ask_line did.reply;
@@ -39,36 +40,36 @@ module _ {s : Session} {l : List Entry} {text out : List ℕ} {at : ℕ} {n : Li
           subst (λ name. Asks s l a.terminal name did.reply n.session n.list) (part_to_end text a.from) did.left,
           refl,
         );
-        puts = did.puts;
+        writes = did.writes;
       }
 
-  pub finish_turned : (t : Terminal) → o ≡ Finish t → Replied (finish_line s.table) (Finishes s l t) out at n k after
-      → Turned s l text out at n k after
+  pub finish_turned : (t : Terminal) → o ≡ Finish t → Replied (finish_line s.table) (Finishes s l t) before n after
+      → Turned s l text before n after
   finish_turned t e did =
       record {
         said = finish_line s.table did.reply;
         says = subst (λ c. Says c s l (finish_line s.table did.reply) n.session n.list)
             (sym (call_is text o (Finish t) reads e))
             (did.reply, did.left, refl);
-        puts = did.puts;
+        writes = did.writes;
       }
 
-  pub withdraw_turned : (t : Terminal) → o ≡ Withdraw t → Replied withdraw_line (Withdraws s l t) out at n k after
-      → Turned s l text out at n k after
+  pub withdraw_turned : (t : Terminal) → o ≡ Withdraw t → Replied withdraw_line (Withdraws s l t) before n after
+      → Turned s l text before n after
   withdraw_turned t e did =
       record {
         said = withdraw_line did.reply;
         says = subst (λ c. Says c s l (withdraw_line did.reply) n.session n.list) (sym (call_is text o (Withdraw t) reads e))
             (did.reply, did.left, refl);
-        puts = did.puts;
+        writes = did.writes;
       }
 
-  pub unread_turned : o ≡ Unreadable → n.session ≡ s → n.list ≡ l → Puts out at (refused_line 16) k after
-      → Turned s l text out at n k after
-  unread_turned e same-session same-list puts =
+  pub unread_turned : o ≡ Unreadable → n.session ≡ s → n.list ≡ l → Writes before (refused_line 16) after
+      → Turned s l text before n after
+  unread_turned e same-session same-list writes =
       record {
         said = refused_line 16;
         says = subst (λ c. Says c s l (refused_line 16) n.session n.list) (sym (call_is text o Unreadable reads e))
             (same-session, same-list, refl);
-        puts = puts;
+        writes = writes;
       }

@@ -13,21 +13,28 @@ use Rattle.std.specs.Prelude.{Ok, Err}
 use Rattle.text.specs.Faults.{number_of as fault_number}
 use Rattle.compiler.specs.declared.replies.Compiled.{Compiled}
 use Rattle.wording.specs.Lines.{lf, before, lines_of, text_of, later_lines}
-use Rattle.wording.specs.Writing.{Puts}
+use Rattle.wording.specs.Writing.{Writes}
+use Rattle.wording.specs.declared.writing.Output.{Output}
 use Rattle.wording.proofs.Pieces.{text_is, later_are}
 use Rattle.transcripts.specs.Replies.{refused_line, refused_path_line}
-use Rattle.transcripts.specs.Transcript.{Transcript, Prints}
+use Rattle.transcripts.specs.Transcript.{Prints}
 use Rattle.transcripts.specs.Transcript.Transcript.{too_long, path_refused, path_accepted}
-use Rattle.transcripts.specs.Talking.{Ran}
+use Rattle.transcripts.specs.Talking.{Ran, Printed}
 
--- what puts the transcript prints it
-prints : {input out : List ℕ} {n : ℕ} {after said : List ℕ} → Transcript input said → Puts out 0 said n after → Prints input out n after
-prints {said = said} is puts =
-    record { said = said; is_transcript = is; output = puts.output; printed = let at = puts.place in omega (arith, at) }
+-- what is printed from the front of an output on
+pub prints : {input : List ℕ} {o p : Output} → o.at ≡ 0 → Printed input o p → Prints input o.bytes.now p.at p.bytes.now
+prints front p =
+    let puts = rw front at p.writes.puts in
+    record {
+      said = p.said;
+      is_transcript = p.is_transcript;
+      output = puts.output;
+      printed = let at = puts.place in omega (arith, at);
+    }
 
-pub prints_too_long : {input out : List ℕ} {n : ℕ} {after : List ℕ} → 65536 < length input → Puts out 0 (refused_line 17) n after
-    → Prints input out n after
-prints_too_long h puts = prints (too_long h refl) puts
+pub printed_too_long : {input : List ℕ} {before after : Output} → 65536 < length input → Writes before (refused_line 17) after
+    → Printed input before after
+printed_too_long h writes = record { said = _; is_transcript = too_long h refl; writes = writes }
 
 module _ (input : List ℕ) (end : ℕ) (told : end ≡ before lf input) (c : Compiled) (compiles : Compiles (take end input) c) where
   its_own : Compiles (text_of input) c
@@ -46,16 +53,17 @@ module _ (input : List ℕ) (end : ℕ) (told : end ≡ before lf input) (c : Co
       ∙ ap (λ k. lines_of (drop (k + 1) input)) told
       ∙ sym (later_are input)
 
-  module _ {out : List ℕ} {n : ℕ} {after : List ℕ} (short : length input ≤ 65536) where
-    pub prints_accepted : c.reply ≡ Ok tt → (from : ℕ) → from ≡ min (end + 1) (length input)
-        → Ran c.table (lines_of (drop from input)) out n after → Prints input out n after
-    prints_accepted e from at ran =
+  module _ {before after : Output} (short : length input ≤ 65536) where
+    pub printed_accepted : c.reply ≡ Ok tt → (from : ℕ) → from ≡ min (end + 1) (length input)
+        → Ran c.table (lines_of (drop from input)) before after → Printed input before after
+    printed_accepted e from at ran =
         let (x, fits) = its_own.accepts.0 (rw e refl) in
         let ruled : c.table ≡ table_of x = (its_own.its_table x fits).by_the_rules in
-        let ran' : Ran (table_of x) (later_lines input) out n after = rw (← (later from at), ← ruled) ran in
-        prints (path_accepted short x fits ran'.said ran'.talk refl) ran'.puts
+        let ran' : Ran (table_of x) (later_lines input) before after = rw (← (later from at), ← ruled) ran in
+        record { said = _; is_transcript = path_accepted short x fits ran'.said ran'.talk refl; writes = ran'.writes }
 
-    pub prints_refused : (why : Refusal) → c.reply ≡ Err why → Puts out 0 (refused_path_line (fault_number why.fault) why.place) n after
-        → Prints input out n after
-    prints_refused why e puts =
-        prints (path_refused short (fault_number why.fault) why.place ((its_own.refuses (fault_number why.fault) why.place).0 (rw e refl)) refl) puts
+    pub printed_refused : (why : Refusal) → c.reply ≡ Err why → Writes before (refused_path_line (fault_number why.fault) why.place) after
+        → Printed input before after
+    printed_refused why e writes =
+        let its_refusal = (its_own.refuses (fault_number why.fault) why.place).0 (rw e refl) in
+        record { said = _; is_transcript = path_refused short (fault_number why.fault) why.place its_refusal refl; writes = writes }

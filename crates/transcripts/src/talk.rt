@@ -1,4 +1,5 @@
 // The lines behind the path, one after the other.
+ghost use Rattle.std.specs.Prelude.{◌≤◌, length};
 ghost use Rattle.steps.specs.Calling.{Asks, Finishes, Withdraws};
 ghost use Rattle.wording.specs.Lines.{lines_of};
 ghost use Rattle.transcripts.specs.Replies.{ask_line, finish_line, withdraw_line};
@@ -8,49 +9,49 @@ use crate::replies::{put_ask, put_finish, put_refused, put_withdraw};
 use lines::held::Line;
 use standing::numbers::Terminal;
 use wording::orders::{LF, Order, bytes_before, read_line};
+use wording::writing::Output;
 
-fn ask_turn(line: &mut Line, terminal: Terminal, name: &[u8], out: &mut [u8], at: usize) -> usize
-    ensures { Replied ask_line (Asks line.old.session line.old.list terminal name.now) out.old at line.new result out.new }
+fn ask_turn(line: &mut Line, terminal: Terminal, name: &[u8], out: &mut Output)
+    ensures { Replied ask_line (Asks line.old.session line.old.list terminal name.now) out.old line.new out.new }
 {
     let reply = line.ask(terminal, name);
-    put_ask(out, at, reply)
+    put_ask(out, reply);
 }
 
-fn finish_turn(line: &mut Line, terminal: Terminal, out: &mut [u8], at: usize) -> usize
-    ensures { Replied (finish_line line.old.session.table) (Finishes line.old.session line.old.list terminal) out.old at line.new result out.new }
+fn finish_turn(line: &mut Line, terminal: Terminal, out: &mut Output)
+    ensures { Replied (finish_line line.old.session.table) (Finishes line.old.session line.old.list terminal) out.old line.new out.new }
 {
     let table = line.session.table;
     let reply = line.finish(terminal);
-    put_finish(out, at, table, reply)
+    put_finish(out, table, reply);
 }
 
-fn withdraw_turn(line: &mut Line, terminal: Terminal, out: &mut [u8], at: usize) -> usize
-    ensures { Replied withdraw_line (Withdraws line.old.session line.old.list terminal) out.old at line.new result out.new }
+fn withdraw_turn(line: &mut Line, terminal: Terminal, out: &mut Output)
+    ensures { Replied withdraw_line (Withdraws line.old.session line.old.list terminal) out.old line.new out.new }
 {
     let reply = line.withdraw(terminal);
-    put_withdraw(out, at, reply)
+    put_withdraw(out, reply);
 }
 
-// One line of the input; where the output goes on.
-fn take_turn(line: &mut Line, text: &[u8], out: &mut [u8], at: usize) -> usize
-    ensures { Turned line.old.session line.old.list text.now out.old at line.new result out.new }
+// One line of the input.
+fn take_turn(line: &mut Line, text: &[u8], out: &mut Output)
+    ensures { Turned line.old.session line.old.list text.now out.old line.new out.new }
 {
     match read_line(text) {
-        Order::Ask(asking) => ask_turn(line, asking.terminal, &text[asking.from..], out, at),
-        Order::Finish(terminal) => finish_turn(line, terminal, out, at),
-        Order::Withdraw(terminal) => withdraw_turn(line, terminal, out, at),
-        Order::Unreadable => put_refused(out, at, 16),
+        Order::Ask(asking) => ask_turn(line, asking.terminal, &text[asking.from..], out),
+        Order::Finish(terminal) => finish_turn(line, terminal, out),
+        Order::Withdraw(terminal) => withdraw_turn(line, terminal, out),
+        Order::Unreadable => put_refused(out, 16),
     }
 }
 
 // All of some lines.
-pub(crate) fn talk(line: Line, lines: &[u8], out: &mut [u8], at: usize) -> usize
-    ensures { Talked line.session line.list (lines_of lines.now) out.old at result out.new }
+pub(crate) fn talk(line: Line, lines: &[u8], out: &mut Output)
+    requires { out.old.at ≤ length out.old.bytes.now }
+    ensures { Talked line.session line.list (lines_of lines.now) out.old out.new }
 {
     let mut line = line;
-    let mut k = at.min(out.len());
     for text in lines.split_inclusive(|b| *b == LF) {
-        k = take_turn(&mut line, &text[..bytes_before(text, LF)], out, k);
+        take_turn(&mut line, &text[..bytes_before(text, LF)], out);
     }
-    k
 }

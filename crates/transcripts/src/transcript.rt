@@ -4,7 +4,7 @@ ghost use Rattle.table.specs.Soundness.{Sound};
 ghost use Rattle.standing.specs.Lists.{blank_entry};
 ghost use Rattle.steps.specs.Steps.{opening};
 ghost use Rattle.wording.specs.Lines.{lines_of};
-ghost use Rattle.transcripts.specs.Talking.{Ran};
+ghost use Rattle.transcripts.specs.Talking.{Ran, Printed};
 ghost use Rattle.transcripts.specs.Transcript.{Prints};
 
 use crate::replies::{put_path, put_refused, put_refused_path};
@@ -13,6 +13,7 @@ use compiler::readers::compile;
 use lines::held::Line;
 use table::cells::Table;
 use wording::orders::{LF, bytes_before};
+use wording::writing::Output;
 
 // A line is opened over a sound table.
 fn opened(table: Table) -> Line
@@ -26,12 +27,12 @@ fn opened(table: Table) -> Line
 }
 
 // From an accepted path on.
-fn run(table: Table, lines: &[u8], out: &mut [u8]) -> usize
+fn run(table: Table, lines: &[u8], out: &mut Output)
     requires { Sound table }
-    ensures { Ran table (lines_of lines.now) out.old result out.new }
+    ensures { Ran table (lines_of lines.now) out.old out.new }
 {
-    let at = put_path(out, 0, &table);
-    talk(opened(table), lines, out, at)
+    put_path(out, &table);
+    talk(opened(table), lines, out);
 }
 
 // The place behind a line that ends at `end`: behind its LF, if it has one.
@@ -44,17 +45,26 @@ fn behind(input: &[u8], end: usize) -> usize
     input.len()
 }
 
-// What `linerun` prints of an input, as far as the output goes.
-pub fn transcript(input: &[u8], out: &mut [u8]) -> usize
-    ensures { Prints input.now out.old result out.new }
+// All that `linerun` prints of an input.
+fn put_transcript(out: &mut Output, input: &[u8])
+    ensures { Printed input.now out.old out.new }
 {
     if 65536 < input.len() {
-        return put_refused(out, 0, 17);
+        return put_refused(out, 17);
     }
     let end = bytes_before(input, LF);
     let compiled = compile(&input[..end]);
     match compiled.reply {
         Ok(()) => run(compiled.table, &input[behind(input, end)..], out),
-        Err(why) => put_refused_path(out, 0, why),
+        Err(why) => put_refused_path(out, why),
     }
+}
+
+// What `linerun` prints of an input, as far as the output goes.
+pub fn transcript(input: &[u8], out: &mut [u8]) -> usize
+    ensures { Prints input.now out.old result out.new }
+{
+    let mut output = Output { bytes: out, at: 0 };
+    put_transcript(&mut output, input);
+    output.at
 }

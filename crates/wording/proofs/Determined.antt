@@ -9,7 +9,7 @@ use Rattle.meaning.specs.Calls.{Call}
 use Rattle.meaning.specs.Calls.Call.{ask, finish, withdraw}
 use Rattle.wording.specs.Lines.{before}
 use Rattle.wording.specs.Orders.{call_read, name_start}
-use Rattle.wording.specs.Promises.{ReadLineDetermined, PutsDetermined}
+use Rattle.wording.specs.Promises.{ReadLineDetermined, PutsDetermined, WritesDetermined}
 use Rattle.wording.specs.declared.orders.Asking.{Asking}
 use Rattle.wording.specs.declared.orders.Order.{Order}
 use Rattle.wording.specs.declared.orders.Order.TheVariants.{Ask, Finish, Withdraw, Unreadable}
@@ -19,6 +19,10 @@ bytes_before_determined b s r r' e e' = e ∙ sym e'
 
 pub puts_determined : PutsDetermined
 puts_determined out s after after' at k k' h h' = (h.place ∙ sym h'.place, h.output ∙ sym h'.output)
+
+pub writes_determined : WritesDetermined
+writes_determined before after after' s h h' =
+    let (place, output) = puts_determined _ _ _ _ _ _ _ h.puts h'.puts in (place, output, h.same_lent ∙ sym h'.same_lent)
 
 -- what is told by a call that was read, or by none
 abbrev kind_read : Option Call → ℕ

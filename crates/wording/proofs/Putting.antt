@@ -6,7 +6,8 @@ use native.Mathlib.Omega.{arith, min_cases}
 use lib.ListN.{length, length-append, take, drop, set, length-set, drop_of_length-le}
 use lib.Seq.{set_out, take-suc-set}
 use Rattle.std.proofs.lemmas.List.{drop-drop, drop-set-lt, take-append-drop, length-take-le}
-use Rattle.wording.specs.Writing.{digit_of, decimal, put_over, Puts}
+use Rattle.wording.specs.Writing.{digit_of, decimal, put_over, Puts, Writes}
+use Rattle.wording.specs.declared.writing.Output.{Output}
 use Rattle.wording.proofs.Digits.{decimal_one}
 
 pub put_length : (out : List ℕ) (at : ℕ) (s : List ℕ) → length (put_over out at s) ≡ length out
@@ -36,11 +37,6 @@ put_cut out at s =
     (λ _ e. rw e refl)
     (λ h e. rw e (put_behind out (length out) s (omega arith) ∙ sym (put_behind out at s h)))
 
--- nothing is put
-pub puts_nothing : (out : List ℕ) (at : ℕ) → Puts out at [] (min at (length out)) out
-unfolding put_over
-puts_nothing out at = record { output = refl; place = omega arith }
-
 -- more is put, from where the first ended
 pub puts_more : {out mid after : List ℕ} {at k k' : ℕ} {s t : List ℕ} → Puts out at s k mid → Puts mid k t k' after
     → Puts out at (s ++ t) k' after
@@ -62,9 +58,22 @@ puts_more {out = out} {mid = mid} {at = at} {k = k} {s = s} {t = t} h g =
 pub puts_length : {out after : List ℕ} {at k : ℕ} {s : List ℕ} → Puts out at s k after → length after ≡ length out
 puts_length {out = out} {at = at} {s = s} h = ap length h.output ∙ put_length out at s
 
+-- nothing is written
+pub writes_nothing : (o : Output) → o.at ≤ length o.bytes.now → Writes o [] o
+unfolding put_over
+writes_nothing o within = record { puts = record { output = refl; place = omega arith }; same_lent = refl }
+
+-- the place is within the output
+pub writes_within : {o p : Output} {s : List ℕ} → Writes o s p → p.at ≤ length p.bytes.now
+writes_within h = let long = puts_length h.puts in omega (arith, long, h.puts.place)
+
+-- more is written, from where the first ended
+pub writes_more : {o p q : Output} {s t : List ℕ} → Writes o s p → Writes p t q → Writes o (s ++ t) q
+writes_more h g = record { puts = puts_more h.puts g.puts; same_lent = g.same_lent ∙ h.same_lent }
+
 -- the bytes in other words
-pub puts_as : {out after : List ℕ} {at k : ℕ} {s t : List ℕ} → s ≡ t → Puts out at s k after → Puts out at t k after
-puts_as {out = out} {after = after} {at = at} {k = k} e h = subst (λ x. Puts out at x k after) e h
+pub writes_as : {o p : Output} {s t : List ℕ} → s ≡ t → Writes o s p → Writes o t p
+writes_as {o = o} {p = p} e h = subst (λ x. Writes o x p) e h
 
 -- a number of one digit
 pub one_digit_printed : (n d : ℕ) → n < 10 → d ≡ digit_of n → decimal n ≡ d ∷ []

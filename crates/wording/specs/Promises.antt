@@ -5,8 +5,9 @@ use Rattle.std.proofs.Math.Option.{some}
 use Rattle.meaning.specs.Calls.Call.{ask, finish, withdraw}
 use Rattle.wording.specs.Lines.{space, before}
 use Rattle.wording.specs.Orders.{ask_word, finish_word, withdraw_word, all_digits, is_number, value_of, call_of, Reads}
-use Rattle.wording.specs.Writing.{Puts, decimal}
+use Rattle.wording.specs.Writing.{Puts, Writes, decimal}
 use Rattle.wording.specs.declared.orders.Order.{Order}
+use Rattle.wording.specs.declared.writing.Output.{Output}
 
 -- exactly one outcome of `read_line`, and of what puts bytes
 abbrev pub ReadLineDetermined : Type 0
@@ -15,6 +16,11 @@ ReadLineDetermined = (line : List ℕ) (r r' : Order) → Reads line r → Reads
 abbrev pub PutsDetermined : Type 0
 PutsDetermined =
     (out s after after' : List ℕ) (at k k' : ℕ) → Puts out at s k after → Puts out at s k' after' → (k ≡ k') × (after ≡ after')
+
+abbrev pub WritesDetermined : Type 0
+WritesDetermined =
+    (before after after' : Output) (s : List ℕ) → Writes before s after → Writes before s after'
+    → (after.at ≡ after'.at) × (after.bytes.now ≡ after'.bytes.now) × (after.bytes.ghost_name ≡ after'.bytes.ghost_name)
 
 -- "Numbers are printed without leading zeros": what is printed of n is digits, reads as n, and starts with 0 only if n is 0
 pub record Decimal (n : ℕ) : Type 0 where

@@ -1,15 +1,21 @@
 -- Bytes that are put into a lent output, and numbers as they are printed.
 use Rattle.std.specs.Prelude.{◌≡◌, cond, List, [], ◌∷◌, ◌++◌, ℕ, zero, suc, ◌+◌, ◌/◌, ◌%◌, min, ltb, length, set}
+use Rattle.wording.specs.declared.writing.Output.{Output}
 
 -- the output with bytes put over its own, from place `at` on; a byte that has no place there is left out
 unfoldable pub put_over : List ℕ → ℕ → List ℕ → List ℕ
 put_over out at [] = out
 put_over out at (b ∷ s) = put_over (set out at b) (suc at) s
 
--- the contract of what puts bytes: the output after it, and the place behind the bytes, the output's end at most
+-- what putting bytes does: the output after it, and the place behind the bytes, the output's end at most
 pub record Puts (out : List ℕ) (at : ℕ) (s : List ℕ) (behind : ℕ) (after : List ℕ) : Type 0 where
   pub output : after ≡ put_over out at s
   pub place : behind ≡ min (at + length s) (length out)
+
+-- the contract of what writes bytes: they are put into the output from its place on, and it still holds the same lent memory
+pub record Writes (before : Output) (s : List ℕ) (after : Output) : Type 0 where
+  pub puts : Puts before.bytes.now before.at s after.at after.bytes.now
+  pub same_lent : after.bytes.ghost_name ≡ before.bytes.ghost_name
 
 -- the sign of a digit
 abbrev pub digit_of : ℕ → ℕ

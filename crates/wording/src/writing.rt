@@ -1,27 +1,13 @@
-// Bytes are put into a lent output, from a place on and as far as it goes; each function answers the place behind them, the output's end at
-// most.
-ghost use Rattle.std.specs.Prelude.{List, ◌∷◌, [], ◌≡◌, ◌<◌};
-ghost use Rattle.wording.specs.Writing.{Puts, decimal, digit_of};
+// Bytes are put into a lent output.
+ghost use Rattle.std.specs.Prelude.{◌∷◌, [], ◌≡◌, ◌<◌};
+ghost use Rattle.wording.specs.Writing.{Writes, decimal, digit_of};
 
-// One byte.
-pub fn put(out: &mut [u8], at: usize, b: u8) -> usize
-    ensures { Puts out.old at (b ∷ []) result out.new }
-{
-    if at < out.len() {
-        out[at] = b;
-        return at + 1;
-    }
-    out.len()
-}
-
-// All of some bytes: as many as fit are copied at once.
-pub fn put_bytes(out: &mut [u8], at: usize, s: &[u8]) -> usize
-    ensures { Puts out.old at s.now result out.new }
-{
-    let from = at.min(out.len());
-    let fits = s.len().min(out.len() - from);
-    out[from..from + fits].copy_from_slice(&s[..fits]);
-    from + fits
+// A lent output, and the place where it goes on. Each method puts bytes from that place on, as far as the output goes, and leaves the place
+// behind them, the output's end at most.
+#[derive(Drop)]
+pub struct Output<'a> {
+    pub bytes: &'a mut [u8],
+    pub at: usize,
 }
 
 // The sign of a digit.
@@ -32,14 +18,38 @@ fn digit(n: u64) -> u8
     b'0' + n as u8
 }
 
-// A number, without leading zeros: all but its last digit first.
-#[tactic(auto, using(crate::proofs::Putting::one_digit_printed))]
-pub fn put_number(out: &mut [u8], at: usize, n: u64) -> usize
-    ensures { Puts out.old at (decimal n) result out.new }
-{
-    if n < 10 {
-        return put(out, at, digit(n));
+impl Output<'_> {
+    // One byte.
+    pub fn put(&mut self, b: u8)
+        ensures { Writes self.old (b ∷ []) self.new }
+    {
+        if self.at < self.bytes.len() {
+            self.bytes[self.at] = b;
+            self.at += 1;
+        } else {
+            self.at = self.bytes.len();
+        }
     }
-    let k = put_number(out, at, n / 10);
-    put(out, k, digit(n % 10))
+
+    // All of some bytes: as many as fit are copied at once.
+    pub fn put_bytes(&mut self, s: &[u8])
+        ensures { Writes self.old s.now self.new }
+    {
+        let from = self.at.min(self.bytes.len());
+        let fits = s.len().min(self.bytes.len() - from);
+        self.bytes[from..from + fits].copy_from_slice(&s[..fits]);
+        self.at = from + fits;
+    }
+
+    // A number, without leading zeros: all but its last digit first.
+    #[tactic(auto, using(crate::proofs::Putting::one_digit_printed))]
+    pub fn put_number(&mut self, n: u64)
+        ensures { Writes self.old (decimal n) self.new }
+    {
+        if n < 10 {
+            return self.put(digit(n));
+        }
+        self.put_number(n / 10);
+        self.put(digit(n % 10));
+    }
 }

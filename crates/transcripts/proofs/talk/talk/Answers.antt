@@ -13,7 +13,7 @@ use Rattle.transcripts.proofs.talk.talk.Goals as goal
 pub loop-text-init : goal.loop-text-init
 loop-text-init c =
     let rest = c.split_inclusive-text-items.ensures.rest in
-    rw (c.into_iter-text-iterator.ensures.into_iter_gives, rest) (none_told _ _ _ _ _ _ c.min-k.ensures)
+    rw (c.into_iter-text-iterator.ensures.into_iter_gives, rest) (none_told _ _ _ _ c.requires)
 
 pub slice_bounds-take_turn-end : goal.slice_bounds-take_turn-end
 slice_bounds-take_turn-end c =
@@ -25,7 +25,7 @@ loop-text-preserved c =
     let cut = c.in-Some.ensures.steps in
     let found = cut.1.2 (λ y. eqb y lf) (answers_always _ _ _ (λ f a r g h. search (rules, tests))) in
     let lines = line_cut _ _ _ _ _ cut.0 cut.1.1 found.1 cut.2 c.bytes_before.ensures in
-    one_more_told _ _ (rw lines at c.loop-text.invariant) c.take_turn-k.ensures
+    one_more_told _ _ (rw lines at c.loop-text.invariant) c.take_turn.ensures
 
 pub returns : goal.returns
 returns c =

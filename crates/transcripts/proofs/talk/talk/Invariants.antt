@@ -6,4 +6,4 @@ use Rattle.transcripts.proofs.talk.talk.Given as goal
 
 abbrev pub invariant-loop-text : goal.invariant-loop-text
 invariant-loop-text l =
-    Told l.initial.line.session l.initial.line.list (lines_of l.lines) l.initial.out l.at l.line.session l.line.list (lines_of (split_inclusive_rest l.text-iterator)) l.out l.k
+    Told l.initial.line.session l.initial.line.list (lines_of l.lines) l.initial.out l.line.session l.line.list (lines_of (split_inclusive_rest l.text-iterator)) l.out

@@ -1,6 +1,9 @@
 -- `transcript::run` meets its contract: the path line, and the talk behind it.
-use Rattle.wording.proofs.Putting.{puts_more}
+use Rattle.wording.proofs.Putting.{writes_more, writes_within}
 use Rattle.transcripts.proofs.transcript.run.Goals as goal
+
+pub talk-requires : goal.talk-requires
+talk-requires c = writes_within c.put_path.ensures
 
 pub returns : goal.returns
 returns c =
@@ -9,6 +12,5 @@ returns c =
     record {
       said = talked.said;
       talk = talked.talk;
-      puts = puts_more
-          c.put_path-at.ensures talked.puts;
+      writes = writes_more c.put_path.ensures talked.writes;
     }

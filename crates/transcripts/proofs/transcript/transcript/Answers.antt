@@ -1,33 +1,10 @@
--- `transcript::transcript` meets its contract: the input is too long, its path is refused, or it is accepted (Wholes.antt).
-use mathlib.Core.Path.{sym}
-use native.Mathlib.Omega.{arith}
-use lib.Seq.{length-take-le}
-use borrow.Author.Rules.{part_to_end}
-use Rattle.text.proofs.Spans.{span_within}
-use Rattle.transcripts.proofs.Wholes.{table_sound, prints_accepted, prints_refused}
+-- `transcript::transcript` meets its contract: it prints from the front of the lent output on, and that is still the same.
+use Rattle.std.proofs.Common.{rules, refl}
+use Rattle.transcripts.proofs.Wholes.{prints}
 use Rattle.transcripts.proofs.transcript.transcript.Goals as goal
 
-pub slice_bounds-compile-end : goal.slice_bounds-compile-end
-slice_bounds-compile-end c =
-    let most = span_within _ c.args.input.now in
-    sym (length-take-le _ _ (rw c.bytes_before-end.ensures most))
-
-pub run-requires : goal.run-requires
-run-requires c =
-    table_sound _ _ c.bytes_before-end.ensures _
-    c.compile-compiled.ensures c.in-Ok.is
-
-pub returns-in-Ok : goal.returns-in-Ok
-returns-in-Ok c =
-    prints_accepted _ _ c.bytes_before-end.ensures _
-    c.compile-compiled.ensures
-    (omega arith)
-    c.in-Ok.is _ c.behind.ensures
-    (rw (part_to_end c.args.input.now c.behind.result) at c.run.ensures)
-
-pub returns-in-Err : goal.returns-in-Err
-returns-in-Err c =
-    prints_refused _ _ c.bytes_before-end.ensures _
-    c.compile-compiled.ensures
-    (omega arith) _
-    c.in-Err.is c.put_refused_path.ensures
+pub returns : goal.returns
+returns c =
+    let printed = prints refl c.put_transcript.ensures in
+    let same_lent = c.put_transcript.ensures.writes.same_lent in
+    search rules
