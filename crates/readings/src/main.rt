@@ -7,6 +7,7 @@ use inputs::read_full;
 use std::io::Write;
 use std::{fmt, io};
 use table::cells::Table;
+use table::numbers::Operation;
 
 // The byte behind a text.
 const TILDE: u8 = b'~';
@@ -48,19 +49,11 @@ fn print_operations<W: Write>(out: &mut W, table: &Table) -> io::Result<()> {
     Ok(())
 }
 
-// Each name's 16 bytes hold it in front.
 fn print_names<W: Write>(out: &mut W, table: &Table) -> io::Result<()> {
     write!(out, " names")?;
-    for (length, spelling) in table
-        .lengths
-        .iter()
-        .zip(table.bytes.chunks(16))
-        .take(table.names)
-    {
+    for i in 0..table.names.min(32) {
         write!(out, " ")?;
-        if let Some(name) = spelling.get(..*length as usize) {
-            out.write_all(name)?;
-        }
+        out.write_all(table.name(Operation(i as u8)))?;
     }
     Ok(())
 }
