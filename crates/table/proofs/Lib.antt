@@ -12,6 +12,7 @@ pub mod Whole
 -- Soundness, clause by clause.
 pub mod Passing
 pub mod InUse
+pub mod Shifting
 pub mod SoundSets
 pub mod Placed
 pub mod SoundOperations

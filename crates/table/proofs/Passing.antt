@@ -1,7 +1,11 @@
--- Tests, and tests of every number in a range. A loop that goes through the range and leaves it at the first that fails keeps an
--- equation: what the whole range says is what the numbers from p on say. And the test of a range is true exactly if each test is.
-use mathlib.Core.Path.{◌≡◌, refl}
-use mathlib.Core.Bool.{Bool, true, false, ◌&&◌, and-eq-true_iff}
+-- Tests of every number in a range: the test of a range is true exactly if each test is; and what `all` says of a list, of its items
+-- with their places and of a part of it is such a test.
+use Rattle.std.specs.List.{list_all, enumerate_from}
+use lib.ListN.{length, get_or, take, drop}
+use lib.Seq.{drop-cons}
+use mathlib.Core.List.{List, [], ◌∷◌}
+use mathlib.Core.Path.{◌≡◌, refl, sym, ap, ◌∙◌}
+use mathlib.Core.Bool.{Bool, true, and-eq-true_iff}
 use mathlib.Core.Logic.{⊎_elim}
 use Prim.Native.Nat.{ℕ, zero, suc, ◌+◌, ◌-◌, ◌≤◌, ◌<◌}
 use native.Mathlib.Numerals.{add-one}
@@ -10,25 +14,6 @@ use Rattle.meaning.proofs.SetLaws.{below_or_not}
 use Rattle.table.specs.Tests.{passing, each}
 
 module _ (test : ℕ → Bool) where
-  module _ (p to : ℕ) (h : p < to) where
-    first_and_others : each test p to ≡ test p && each test (p + 1) to
-    unfolding passing
-    first_and_others =
-        let count : to - p ≡ suc (to - (p + 1)) = omega arith in
-        rw (count, add-one p)
-
-    pub one_passes : test p ≡ true → each test p to ≡ each test (p + 1) to
-    one_passes e = rw (first_and_others, e)
-
-    pub one_fails : test p ≡ false → each test p to ≡ false
-    one_fails e = rw (first_and_others, e)
-
-  pub all_passed : (p to : ℕ) → to ≤ p → each test p to ≡ true
-  unfolding passing
-  all_passed p to h =
-      let none : to - p ≡ 0 = omega arith in
-      rw none
-
   passing_each : (k from p : ℕ) → passing test from k ≡ true → from ≤ p → p < from + k → test p ≡ true
   unfolding passing
   passing_each zero from p t l h = absurd (omega arith)
@@ -50,3 +35,43 @@ module _ (test : ℕ → Bool) where
 
   pub each_said : (from to : ℕ) → ((p : ℕ) → from ≤ p → p < to → test p ≡ true) → each test from to ≡ true
   each_said from to t = each_passing (to - from) from (λ p l h. t p l (omega arith))
+
+-- What `all` says of the items of a list with their places is the test of the places.
+passing_same : (f g : ℕ → Bool) (k from : ℕ) → ((p : ℕ) → from ≤ p → f p ≡ g p) → passing f from k ≡ passing g from k
+unfolding passing
+passing_same f g zero from same = refl
+passing_same f g (suc k) from same =
+    rw (same from (omega arith), passing_same f g k (suc from) (λ p h. same p (omega arith))) refl
+
+module _ {A : Type 0} (test : ℕ → A → Bool) (d : A) where
+  later : (p n : ℕ) (x : A) (xs : List A) → suc n ≤ p → get_or (x ∷ xs) (p - n) d ≡ get_or xs (p - suc n) d
+  later p n x xs h =
+      let one : p - n ≡ suc (p - suc n) = omega arith in
+      rw one refl
+
+  all_from : (xs : List A) (n : ℕ)
+      → list_all (λ (q : ℕ × A). test q.0 q.1) (enumerate_from n xs) ≡ passing (λ p. test p (get_or xs (p - n) d)) n (length xs)
+  unfolding passing
+  all_from [] n = refl
+  all_from (x ∷ xs) n =
+      let here : n - n ≡ 0 = omega arith in
+      rw (
+        here,
+        add-one n,
+        all_from xs (suc n),
+        passing_same _ (λ p. test p (get_or (x ∷ xs) (p - n) d)) (length xs) (suc n) (λ p h. ap (test p) (sym (later p n x xs h))),
+      ) refl
+
+  pub all_each : (xs : List A) (n : ℕ) → length xs ≡ n
+      → list_all (λ (q : ℕ × A). test q.0 q.1) (enumerate_from 0 xs) ≡ each (λ p. test p (get_or xs p d)) 0 n
+  all_each xs n e =
+      all_from xs 0
+      ∙ passing_same _ _ (length xs) 0 (λ p h. let all : p - 0 ≡ p = omega arith in rw all refl)
+      ∙ ap (passing (λ p. test p (get_or xs p d)) 0) (omega (arith, e))
+
+-- What `all` says of a part of a list is the test of its places.
+pub all_part : {A : Type 0} (test : A → Bool) (d : A) (n from : ℕ) (xs : List A) → from + n ≤ length xs
+    → list_all test (take n (drop from xs)) ≡ passing (λ p. test (get_or xs p d)) from n
+unfolding passing
+all_part test d zero from xs h = refl
+all_part test d (suc n) from xs h = rw (drop-cons xs from d (omega arith), all_part test d n (suc from) xs (omega arith)) refl

@@ -1,14 +1,14 @@
--- Looking for an operation that stands twice, place by place: each turn of the loop looks at place p, and what the test says of the
--- places from there on is what it says of those behind, or is decided.
-use mathlib.Core.Path.{◌≡◌, refl}
-use mathlib.Core.Bool.{true, false}
+-- No operation stands twice, place by place: none stands again behind its place.
+use mathlib.Core.Path.{◌≡◌, refl, sym, ap, ◌∙◌}
+use mathlib.Core.Bool.{Bool, not}
 use mathlib.Core.List.{List, [], ◌∷◌}
-use Prim.Native.Nat.{ℕ, ◌+◌, ◌≤◌, ◌<◌}
+use Prim.Native.Nat.{ℕ, ◌+◌, ◌-◌, ◌<◌}
 use native.Mathlib.Numerals.{add-one}
 use Rattle.std.specs.Prelude.{nat_eq}
-use Rattle.std.specs.List.{list_any}
-use lib.ListN.{length, drop, get_or, drop_of_length-le}
-use lib.Seq.{drop-cons}
+use Rattle.std.specs.List.{list_any, list_all, enumerate_from}
+use lib.ListN.{length, take, drop, get_or}
+use lib.Seq.{drop-cons, drop-drop}
+use borrow.Author.Rules.{part_to_end}
 use Rattle.table.specs.declared.numbers.Operation.{Operation}
 use Rattle.table.specs.Marks.{among, none_twice}
 
@@ -18,29 +18,22 @@ unfolding among
 stands_among [] o = refl
 stands_among (x ∷ xs) o = rw (stands_among xs o) refl
 
-module _ (operations : List Operation) (p : ℕ) where
-  -- the operation at p, and the places from p on
-  abbrev pub here : Operation
-  here = get_or operations p (record { 0 = 0 })
+-- the operation at p, and the places from p on
+module _ (operations : List Operation) (p : ℕ) (used : p < length operations) where
+  pub here_and_behind : drop p operations ≡ get_or operations p (record { 0 = 0 }) ∷ drop (p + 1) operations
+  here_and_behind = rw (add-one p, drop-cons operations p (record { 0 = 0 }) used)
 
-  abbrev from_here : List Operation
-  from_here = drop p operations
+-- the operation at a place does not stand among those behind it
+abbrev pub none_behind : List Operation → ℕ × Operation → Bool
+none_behind os q = not (list_any (λ (y : Operation). nat_eq y.0 q.1.0) (take (length os - (q.0 + 1)) (drop (q.0 + 1) os)))
 
-  abbrev pub behind : List Operation
-  behind = drop (p + 1) operations
+apart_from : (os xs : List Operation) (n : ℕ) → drop n os ≡ xs → list_all (none_behind os) (enumerate_from n xs) ≡ none_twice xs
+unfolding none_twice
+apart_from os [] n e = refl
+apart_from os (x ∷ xs) n e =
+    let rest : drop (n + 1) os ≡ xs = sym (drop-drop 1 n os) ∙ ap (drop 1) e in
+    rw (part_to_end os (n + 1), rest, stands_among xs x.0, apart_from os xs (n + 1) rest) refl
 
-  module _ (used : p < length operations) where
-    pub here_and_behind : from_here ≡ here ∷ behind
-    here_and_behind = rw (add-one p, drop-cons operations p (record { 0 = 0 }) used)
-
-    pub twice_here : among behind here.0 ≡ true → none_twice from_here ≡ false
-    unfolding none_twice
-    twice_here e = rw (here_and_behind, e)
-
-    pub twice_behind : among behind here.0 ≡ false → none_twice from_here ≡ none_twice behind
-    unfolding none_twice
-    twice_behind e = rw (here_and_behind, e)
-
-  pub twice_nowhere : length operations ≤ p → none_twice from_here ≡ true
-  unfolding none_twice
-  twice_nowhere past = rw (drop_of_length-le operations past)
+-- none stands behind its own place exactly if none stands twice
+pub all_apart : (os : List Operation) → list_all (none_behind os) (enumerate_from 0 os) ≡ none_twice os
+all_apart os = apart_from os os 0 refl

@@ -1,27 +1,18 @@
 // The mark: whether the path is deterministic.
 ghost use Rattle.std.specs.Prelude.{◌≡◌};
-ghost use Rattle.table.specs.Marks.{among, none_twice, mark_of};
+ghost use Rattle.table.specs.Marks.{none_twice, mark_of};
 
 use crate::cells::Table;
 use crate::numbers::Operation;
-
-// The operation stands among them.
-fn stands(operations: &[Operation], o: Operation) -> bool
-    ensures { result ≡ among operations.now o.0 }
-{
-    operations.contains(&o)
-}
 
 // No operation stands twice among them.
 fn none_twice(operations: &[Operation]) -> bool
     ensures { result ≡ none_twice operations.now }
 {
-    for (p, o) in operations.iter().enumerate() {
-        if stands(&operations[p + 1..], *o) {
-            return false;
-        }
-    }
-    true
+    operations
+        .iter()
+        .enumerate()
+        .all(|(p, o)| !operations[p + 1..].contains(o))
 }
 
 impl Table {

@@ -15,7 +15,7 @@ impl Table {
         ensures { result.now ≡ get_or (spellings self.now.lengths self.now.bytes) i [] }
     {
         let from = 16 * i;
-        let to = (from + self.lengths[i] as usize).min(512);
+        let to = (from + usize::from(self.lengths[i])).min(512);
         &self.bytes[from..to]
     }
 
@@ -23,7 +23,7 @@ impl Table {
     pub fn name(&self, o: Operation) -> &[u8]
         ensures { result.now ≡ get_or (names_of self.now) o.0 [] }
     {
-        let i = o.0 as usize;
+        let i = usize::from(o.0);
         if self.names.min(32) <= i {
             return &[];
         }

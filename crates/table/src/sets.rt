@@ -53,14 +53,16 @@ pub fn link(rows: &mut [u64], last: u64, first: u64)
     }
 }
 
-// The positions, in a list of their operations, of one operation: the last is the highest bit.
+// The positions, in a list of their operations, of one operation.
 fn positions_with(operations: &[Operation], o: Operation) -> u64
     requires { length operations.now ≤ 64 }
     ensures { result ≡ positions_with operations.now o.0 }
 {
     let mut out = 0;
-    for p in (0..operations.len()).rev() {
-        out = 2 * out + u64::from(operations[p] == o);
+    for (p, operation) in operations.iter().enumerate() {
+        if *operation == o {
+            out |= 1 << p;
+        }
     }
     out
 }

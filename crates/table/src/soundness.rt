@@ -9,16 +9,11 @@ use crate::numbers::Operation;
 use text::tokens::well_formed;
 
 // The set is not empty and names only the first n positions.
+#[tactic(auto, using(crate::proofs::Shifting::shifted_empty, crate::proofs::Shifting::below_wide), unfolding(crate::specs::Tests::fit_test))]
 pub fn fits(s: u64, n: usize) -> bool
     ensures { result ≡ fit_test s n }
 {
-    if s == 0 {
-        return false;
-    }
-    if 64 <= n {
-        return true;
-    }
-    s >> n == 0
+    s != 0 && (64 <= n || s >> n == 0)
 }
 
 // A row in use fits, another is zero.
@@ -33,7 +28,7 @@ fn operation_fits(o: Operation, p: usize, n: usize, names: usize) -> bool
     ensures { result ≡ operation_test o.0 p n names }
 {
     if p < n {
-        (o.0 as usize) < names
+        usize::from(o.0) < names
     } else {
         o.0 == 0
     }
@@ -53,15 +48,10 @@ fn placed(operations: &[Operation]) -> u64
 
 // The bytes from `from` up to `to` are zero.
 fn zeros(bytes: &[u8], from: usize, to: usize) -> bool
-    requires { to ≤ length bytes.now }
+    requires { (from ≤ to) × (to ≤ length bytes.now) }
     ensures { result ≡ zeros_test bytes.now from to }
 {
-    for k in from..to {
-        if bytes[k] != 0 {
-            return false;
-        }
-    }
-    true
+    bytes[from..to].iter().all(|b| *b == 0)
 }
 
 impl Table {
@@ -76,24 +66,20 @@ impl Table {
     fn rows_fit(&self) -> bool
         ensures { result ≡ rows_test self.now.rows self.now.positions }
     {
-        for (p, row) in self.rows.iter().enumerate() {
-            if !row_fits(*row, p, self.positions) {
-                return false;
-            }
-        }
-        true
+        self.rows
+            .iter()
+            .enumerate()
+            .all(|(p, row)| row_fits(*row, p, self.positions))
     }
 
     // The operations of positions are below the name count, and those behind them are zero.
     fn operations_fit(&self) -> bool
         ensures { result ≡ operations_test self.now.operations self.now.positions self.now.names }
     {
-        for (p, o) in self.operations.iter().enumerate() {
-            if !operation_fits(*o, p, self.positions, self.names) {
-                return false;
-            }
-        }
-        true
+        self.operations
+            .iter()
+            .enumerate()
+            .all(|(p, o)| operation_fits(*o, p, self.positions, self.names))
     }
 
     // Each operation below the name count has a position: one pass gathers them, and one comparison tells.
@@ -108,15 +94,13 @@ impl Table {
     }
 
     // Name i, of n bytes, is well formed, and not among those before it.
+    #[tactic(auto, unfolding(crate::specs::Tests::fresh_test))]
     fn is_fresh(&self, i: usize, n: usize) -> bool
         requires { (i < 32) × (n ≤ 16) }
         ensures { result ≡ fresh_test (take n (drop (16 * i) self.now.bytes)) (take i (spellings self.now.lengths self.now.bytes)) }
     {
         let name = &self.bytes[16 * i..16 * i + n];
-        if !well_formed(name) {
-            return false;
-        }
-        self.find_among(i, name).is_none()
+        well_formed(name) && self.find_among(i, name).is_none()
     }
 
     // Name i, of n bytes, is fresh if it is in use, and else has no length.
@@ -132,53 +116,35 @@ impl Table {
     }
 
     // Name i, of n bytes, is short and as its use wants it, and the bytes kept for it behind it are zero.
+    #[tactic(auto, unfolding(crate::specs::Tests::name_test))]
     fn name_fits(&self, i: usize, n: usize) -> bool
         requires { i < 32 }
         ensures { result ≡ name_test i n self.now.names self.now.lengths self.now.bytes }
     {
-        if 16 < n {
-            return false;
-        }
-        if !self.use_fits(i, n) {
-            return false;
-        }
-        zeros(&self.bytes, 16 * i + n, 16 * i + 16)
+        n <= 16 && self.use_fits(i, n) && zeros(&self.bytes, 16 * i + n, 16 * i + 16)
     }
 
     // The names in use fit, and the cells of the others are zero.
     fn names_fit(&self) -> bool
         ensures { result ≡ names_test self.now.names self.now.lengths self.now.bytes }
     {
-        for (i, n) in self.lengths.iter().enumerate() {
-            if !self.name_fits(i, *n as usize) {
-                return false;
-            }
-        }
-        true
+        self.lengths
+            .iter()
+            .enumerate()
+            .all(|(i, n)| self.name_fits(i, usize::from(*n)))
     }
 
     // The table is sound.
+    #[tactic(auto, using(crate::proofs::SoundTests::tests_decide_sound), unfolding(crate::specs::Tests::sound_test))]
     pub fn is_sound(&self) -> bool
         ensures { (result ≡ true) ↔ Sound self.now }
     {
-        if !self.counts_fit() {
-            return false;
-        }
-        if !self.operations_fit() {
-            return false;
-        }
-        if !self.each_placed() {
-            return false;
-        }
-        if !fits(self.start, self.positions) {
-            return false;
-        }
-        if !self.rows_fit() {
-            return false;
-        }
-        if !self.names_fit() {
-            return false;
-        }
-        self.mark == self.mark_by_rule()
+        self.counts_fit()
+            && self.operations_fit()
+            && self.each_placed()
+            && fits(self.start, self.positions)
+            && self.rows_fit()
+            && self.names_fit()
+            && self.mark == self.mark_by_rule()
     }
 }

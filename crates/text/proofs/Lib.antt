@@ -3,6 +3,7 @@ pub mod Table
 pub mod Bytes
 pub mod FaultNumbers
 pub mod Spans
+pub mod Firsts
 pub mod Sames
 pub mod Ways
 pub mod Determined

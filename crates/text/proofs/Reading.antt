@@ -162,6 +162,14 @@ module _ (s : List ℕ) where
   unfolding next_token
   token_moves_on h = from_moves (span blank_byte s) (drop (span blank_byte s) s) h
 
+  -- nothing is left: the text is used up
+  pub nothing_uses_all : (next_token s).token ≡ TextEnd → (next_token s).used ≡ length s
+  unfolding next_token
+  nothing_uses_all e =
+      let k = span blank_byte s in
+      let empty = ap length (from_ends k (drop k s) e) in
+      omega (arith, length-drop k s, span_within blank_byte s, from_within k (drop k s), from_forward k (drop k s), from_start k (drop k s))
+
   -- and nothing but blanks was left
   pub end_starts_last : (next_token s).token ≡ TextEnd → (next_token s).start ≡ length s
   unfolding next_token

@@ -82,7 +82,7 @@ impl Classes {
         ensures { result ≡ class_of b }
     {
         if b < 128 {
-            return self.table[b as usize];
+            return self.table[usize::from(b)];
         }
         Class::Bad
     }

@@ -45,24 +45,18 @@ pub struct Read {
 fn blanks(classes: &Classes, s: &[u8]) -> usize
     ensures { result ≡ span blank_byte s.now }
 {
-    for (i, b) in s.iter().enumerate() {
-        if !classes.class(*b).is_blank() {
-            return i;
-        }
-    }
-    s.len()
+    s.iter()
+        .position(|b| !classes.class(*b).is_blank())
+        .unwrap_or(s.len())
 }
 
 // How many letters and digits the text starts with.
 fn run(classes: &Classes, s: &[u8]) -> usize
     ensures { result ≡ span name_byte s.now }
 {
-    for (i, b) in s.iter().enumerate() {
-        if !classes.class(*b).is_in_name() {
-            return i;
-        }
-    }
-    s.len()
+    s.iter()
+        .position(|b| !classes.class(*b).is_in_name())
+        .unwrap_or(s.len())
 }
 
 // The two names are one: their keys have the same bytes.

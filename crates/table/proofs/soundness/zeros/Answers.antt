@@ -1,16 +1,16 @@
--- `table::soundness::zeros` meets its contract. The invariant: what all the bytes say is what those from k on say.
-use mathlib.Core.Path.{sym, ◌∙◌}
-use borrow.Author.Tests.{eq-eqb, ne_eqb}
-use Rattle.table.proofs.Passing.{one_passes, one_fails, all_passed}
+-- `all` tests each byte of the part.
+use Rattle.std.proofs.Common.{rules, arith, ◌∙◌, ◌-◌, take, drop}
+use borrow.Author.Tests.{tests}
+use Rattle.std.specs.Prelude.{eqb}
+use Rattle.std.proofs.lemmas.Iterator.{YieldsList-from_slice}
+use Rattle.std.proofs.lemmas.Iterator.Search.{all_from_yields_List}
+use Rattle.table.proofs.Passing.{all_part}
 use Rattle.table.proofs.soundness.zeros.Goals as goal
 
-pub returns-then-bytes-k-ne0 : goal.returns-then-bytes-k-ne0
-returns-then-bytes-k-ne0 c =
-    sym (c.loop-k.invariant ∙ one_fails _ _ _ c.loop-k-test.true (ne_eqb _ _ c.if-bytes-k-ne0.true))
-
-pub loop-k-preserved : goal.loop-k-preserved
-loop-k-preserved c =
-    c.loop-k.invariant ∙ one_passes _ _ _ c.loop-k-test.true (eq-eqb _ _ c.if-bytes-k-ne0.false)
-
 pub returns : goal.returns
-returns c = sym (c.loop-k.invariant ∙ all_passed _ _ _ c.loop-k-test.false)
+returns c =
+    let a = c.args in
+    all_from_yields_List (λ b. eqb b 0) _ _ _ c.all.ensures.ran
+    (YieldsList-from_slice (take (a.to - a.from) (drop a.from a.bytes.now)) (cc))
+    (λ x b q k. search (rules, tests))
+    ∙ all_part (λ b. eqb b 0) 0 (a.to - a.from) a.from a.bytes.now (omega (arith, c.requires))

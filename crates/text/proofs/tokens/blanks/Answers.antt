@@ -1,18 +1,19 @@
-use Rattle.std.proofs.Common.{rules, arith, ◌≡◌, ◌∙◌, length}
+-- `position` finds the first byte that is none.
+use Rattle.std.proofs.Common.{rules, ◌≡◌, ◌∙◌, ap, not, length}
+use borrow.Author.Tests.{tests}
+use Rattle.std.specs.Option.{unwrap_or}
+use Rattle.std.specs.List.{position}
+use Rattle.std.proofs.lemmas.Iterator.{YieldsList-from_slice}
+use Rattle.std.proofs.lemmas.Iterator.Search.{position_from_yields_List}
 use Rattle.text.specs.Tokens.{blank_byte}
-use Rattle.text.proofs.Spans.{none_passed, one_more_passed, passed_to_failing, passed_to_end}
+use Rattle.text.proofs.Firsts.{first_failing}
 use Rattle.text.proofs.tokens.blanks.Goals as goal
-
-pub loop-i-init : goal.loop-i-init
-loop-i-init c = none_passed blank_byte c.args.s.now
-
-pub returns-then-not-is_blank : goal.returns-then-not-is_blank
-returns-then-not-is_blank c = passed_to_failing blank_byte c.args.s.now _ (search rules) (search rules) c.loop-i.invariant
-
-pub loop-i-preserved : goal.loop-i-preserved
-loop-i-preserved c = one_more_passed blank_byte c.args.s.now _ (search rules) (search rules) c.loop-i.invariant
 
 pub returns : goal.returns
 returns c =
-    let all : length c.args.s.now ≡ c.loop-i.i = omega arith in
-    all ∙ passed_to_end blank_byte c.args.s.now c.loop-i.i (omega arith) c.loop-i.invariant
+    let s = c.args.s.now in
+    let bytes = YieldsList-from_slice s c.iter.ensures.rest in
+    let found : c.position.result ≡ position (λ b. not (blank_byte b)) s =
+    position_from_yields_List (λ b. not (blank_byte b)) _ _ c.position.result c.position.ensures.ran bytes (λ x y q k. search (rules, tests))
+    in
+    c.unwrap_or.ensures ∙ ap (λ r. unwrap_or r (length s)) found ∙ first_failing blank_byte s

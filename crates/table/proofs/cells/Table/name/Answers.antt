@@ -10,10 +10,11 @@ unfolding names_of
 returns-then-min-i c =
     let t = c.args.self.now in
     let all : length t.lengths ≡ 32 = search rules in
-    sym (get_or-eq_default (take t.names (spellings t.lengths t.bytes)) [] {n = _} (omega (arith, c.min.ensures, c.if-min-i.true, all, length-take t.names (spellings t.lengths t.bytes), length_spellings t.lengths t.bytes)))
+    sym (get_or-eq_default (take t.names (spellings t.lengths t.bytes)) [] {n = _} (omega (arith, c.min.ensures, c.if-min-i.true, c.from-i.ensures, all, length-take t.names (spellings t.lengths t.bytes), length_spellings t.lengths t.bytes)))
 
 pub returns : goal.returns
 unfolding names_of
 returns c =
     let t = c.args.self.now in
-    c.spelling.ensures ∙ sym (get_or-take t.names (spellings t.lengths t.bytes) _ [] (omega arith))
+    rw c.from-i.ensures at c.spelling.ensures
+    ∙ sym (get_or-take t.names (spellings t.lengths t.bytes) _ [] (omega (arith, c.from-i.ensures)))

@@ -1,14 +1,17 @@
-use Rattle.std.proofs.Common.{arith, sym, ◌∙◌}
-use Rattle.table.proofs.Passing.{one_passes, one_fails, all_passed}
+-- `all` tests each length with its place.
+use Rattle.std.proofs.Common.{rules, arith, ◌∙◌}
+use borrow.Author.Tests.{tests}
+use Rattle.std.proofs.lemmas.Iterator.{YieldsList-from_slice}
+use Rattle.std.proofs.lemmas.Iterator.Consumers.{YieldsList-from_enumerate}
+use Rattle.std.proofs.lemmas.Iterator.Search.{all_from_yields_List}
+use Rattle.table.specs.Tests.{name_test}
+use Rattle.table.proofs.Passing.{all_each}
 use Rattle.table.proofs.cells.Table.names_fit.Goals as goal
 
-pub returns-then-not-name_fits : goal.returns-then-not-name_fits
-returns-then-not-name_fits c =
-    sym (c.loop-i.invariant ∙ one_fails _ _ _ (omega arith) (sym c.name_fits.ensures ∙ c.if-not-name_fits.true))
-
-pub loop-i-preserved : goal.loop-i-preserved
-loop-i-preserved c =
-    c.loop-i.invariant ∙ one_passes _ _ _ (omega arith) (sym c.name_fits.ensures ∙ c.if-not-name_fits.false)
-
 pub returns : goal.returns
-returns c = sym (c.loop-i.invariant ∙ all_passed _ _ _ (omega arith))
+returns c =
+    let t = c.args.self.now in
+    all_from_yields_List (λ q. name_test q.0 q.1 t.names t.lengths t.bytes) _ _ _ c.all.ensures.ran
+    (YieldsList-from_enumerate (YieldsList-from_slice t.lengths (cc)) (cc))
+    (λ x b q k. search (rules, tests))
+    ∙ all_each (λ i n. name_test i n t.names t.lengths t.bytes) 0 t.lengths 32 (omega arith)

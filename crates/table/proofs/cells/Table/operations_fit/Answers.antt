@@ -1,14 +1,17 @@
-use Rattle.std.proofs.Common.{arith, sym, ◌∙◌}
-use Rattle.table.proofs.Passing.{one_passes, one_fails, all_passed}
+-- `all` tests each operation with its place.
+use Rattle.std.proofs.Common.{rules, arith, ◌∙◌}
+use borrow.Author.Tests.{tests}
+use Rattle.std.proofs.lemmas.Iterator.{YieldsList-from_slice}
+use Rattle.std.proofs.lemmas.Iterator.Consumers.{YieldsList-from_enumerate}
+use Rattle.std.proofs.lemmas.Iterator.Search.{all_from_yields_List}
+use Rattle.table.specs.Tests.{operation_test}
+use Rattle.table.proofs.Passing.{all_each}
 use Rattle.table.proofs.cells.Table.operations_fit.Goals as goal
 
-pub returns-then-not-operation_fits : goal.returns-then-not-operation_fits
-returns-then-not-operation_fits c =
-    sym (c.loop-p.invariant ∙ one_fails _ _ _ (omega arith) (sym c.operation_fits.ensures ∙ c.if-not-operation_fits.true))
-
-pub loop-p-preserved : goal.loop-p-preserved
-loop-p-preserved c =
-    c.loop-p.invariant ∙ one_passes _ _ _ (omega arith) (sym c.operation_fits.ensures ∙ c.if-not-operation_fits.false)
-
 pub returns : goal.returns
-returns c = sym (c.loop-p.invariant ∙ all_passed _ _ _ (omega arith))
+returns c =
+    let t = c.args.self.now in
+    all_from_yields_List (λ q. operation_test q.1.0 q.0 t.positions t.names) _ _ _ c.all.ensures.ran
+    (YieldsList-from_enumerate (YieldsList-from_slice t.operations (cc)) (cc))
+    (λ x b q k. search (rules, tests))
+    ∙ all_each (λ p o. operation_test o.0 p t.positions t.names) (record { 0 = 0 }) t.operations 64 (omega arith)

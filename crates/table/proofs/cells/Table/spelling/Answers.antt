@@ -7,4 +7,4 @@ returns c =
     let t = c.args.self.now in
     let all : length t.lengths ≡ 32 = search rules in
     let every : length t.bytes ≡ 512 = search rules in
-    spelling_read c.args.i c.min-to.result t.lengths t.bytes all every c.requires c.min-to.ensures
+    spelling_read c.args.i c.min-to.result t.lengths t.bytes all every c.requires (rw c.from.ensures at c.min-to.ensures)
