@@ -5,6 +5,7 @@ use Prim.Native.Nat.{ℕ, ◌+◌, ◌≤◌, ◌<◌, min}
 use native.Mathlib.Omega.{arith, min_cases}
 use native.Mathlib.Nat.{le_refl}
 use lib.ListN.{length, take, drop, drop_of_length-le}
+use Rattle.text.proofs.Spans.{span_within}
 use Rattle.table.specs.Soundness.{Sound}
 use Rattle.table.specs.Rules.{table_of}
 use Rattle.compiler.specs.Compiling.{Compiles}
@@ -35,6 +36,10 @@ prints front p =
 pub printed_too_long : {input : List ℕ} {before after : Output} → 65536 < length input → Writes before (refused_line 17) after
     → Printed input before after
 printed_too_long h writes = record { said = _; is_transcript = too_long h refl; writes = writes }
+
+-- the path ends in the input
+pub end_within : (input : List ℕ) (end : ℕ) → end ≡ before lf input → end ≤ length input
+end_within input end told = rw told (span_within _ input)
 
 module _ (input : List ℕ) (end : ℕ) (told : end ≡ before lf input) (c : Compiled) (compiles : Compiles (take end input) c) where
   its_own : Compiles (text_of input) c

@@ -68,18 +68,18 @@ fn put_name(out: &mut Output, table: &Table, operation: Operation)
 }
 
 // Whom a finish hands the line to, and for what.
-fn put_grant(out: &mut Output, table: Table, grant: Grant)
-    ensures { Writes out.old (space ∷ line_of (grant_fields table grant)) out.new }
+fn put_grant(out: &mut Output, table: &Table, grant: Grant)
+    ensures { Writes out.old (space ∷ line_of (grant_fields table.now grant)) out.new }
 {
     out.put_bytes(b" granted ");
     out.put_number(grant.terminal.0 as u64);
     out.put(SPACE);
-    put_name(out, &table, grant.operation);
+    put_name(out, table, grant.operation);
     out.put(LF);
 }
 
-fn put_finished(out: &mut Output, table: Table, finished: Finished)
-    ensures { Writes out.old (finished_line table finished.examined finished.next) out.new }
+fn put_finished(out: &mut Output, table: &Table, finished: Finished)
+    ensures { Writes out.old (finished_line table.now finished.examined finished.next) out.new }
 {
     out.put_bytes(b"finished ");
     out.put_number(finished.examined as u64);
@@ -91,8 +91,8 @@ fn put_finished(out: &mut Output, table: Table, finished: Finished)
 }
 
 #[tactic(auto, unfolding(crate::specs::Replies::finish_line))]
-pub(crate) fn put_finish(out: &mut Output, table: Table, reply: FinishReply)
-    ensures { Writes out.old (finish_line table reply) out.new }
+pub(crate) fn put_finish(out: &mut Output, table: &Table, reply: FinishReply)
+    ensures { Writes out.old (finish_line table.now reply) out.new }
 {
     match reply {
         Ok(finished) => put_finished(out, table, finished),

@@ -23,7 +23,7 @@ fn finish_turn(line: &mut Line, terminal: Terminal, out: &mut Output)
 {
     let table = line.session.table;
     let reply = line.finish(terminal);
-    put_finish(out, table, reply);
+    put_finish(out, &table, reply);
 }
 
 fn withdraw_turn(line: &mut Line, terminal: Terminal, out: &mut Output)
@@ -38,10 +38,10 @@ fn take_turn(line: &mut Line, text: &[u8], out: &mut Output)
     ensures { Turned line.old.session line.old.list text.now out.old line.new out.new }
 {
     match read_line(text) {
-        Order::Ask(asking) => ask_turn(line, asking.terminal, &text[asking.from..], out),
-        Order::Finish(terminal) => finish_turn(line, terminal, out),
-        Order::Withdraw(terminal) => withdraw_turn(line, terminal, out),
-        Order::Unreadable => put_refused(out, 16),
+        Some(Order::Ask(asking)) => ask_turn(line, asking.terminal, &text[asking.from..], out),
+        Some(Order::Finish(terminal)) => finish_turn(line, terminal, out),
+        Some(Order::Withdraw(terminal)) => withdraw_turn(line, terminal, out),
+        None => put_refused(out, 16),
     }
 }
 

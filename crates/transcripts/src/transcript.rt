@@ -1,5 +1,5 @@
 // The whole output.
-ghost use Rattle.std.specs.Prelude.{◌≡◌, ◌+◌, min, length, replicate};
+ghost use Rattle.std.specs.Prelude.{◌≡◌, replicate};
 ghost use Rattle.table.specs.Soundness.{Sound};
 ghost use Rattle.standing.specs.Lists.{blank_entry};
 ghost use Rattle.steps.specs.Steps.{opening};
@@ -35,17 +35,8 @@ fn run(table: Table, lines: &[u8], out: &mut Output)
     talk(opened(table), lines, out);
 }
 
-// The place behind a line that ends at `end`: behind its LF, if it has one.
-fn behind(input: &[u8], end: usize) -> usize
-    ensures { result ≡ min (end + 1) (length input.now) }
-{
-    if end < input.len() {
-        return end + 1;
-    }
-    input.len()
-}
-
 // All that `linerun` prints of an input.
+#[tactic(auto, using(crate::proofs::Wholes::end_within))]
 fn put_transcript(out: &mut Output, input: &[u8])
     ensures { Printed input.now out.old out.new }
 {
@@ -55,7 +46,8 @@ fn put_transcript(out: &mut Output, input: &[u8])
     let end = bytes_before(input, LF);
     let compiled = compile(&input[..end]);
     match compiled.reply {
-        Ok(()) => run(compiled.table, &input[behind(input, end)..], out),
+        // Behind the path and its LF, if it has one.
+        Ok(()) => run(compiled.table, &input[(end + 1).min(input.len())..], out),
         Err(why) => put_refused_path(out, why),
     }
 }

@@ -8,13 +8,13 @@ use borrow.Author.Tests.{ltb-true, ltb-false}
 use mathlib.Core.Bool.{Bool, true, false}
 use lib.Dec.{eqb, ltb}
 use Rattle.std.specs.List.{list_any}
+use Rattle.std.specs.Prelude.{Option, None}
 use lib.ListN.{length, take, drop, length-drop, drop_of_length-le}
 use lib.Seq.{drop-drop}
 use Rattle.text.proofs.Spans.{span_within}
 use Rattle.wording.specs.Lines.{space, before, fields_of}
 use Rattle.wording.specs.Orders.{ask_word, number_in, three_read, ReadsAs}
 use Rattle.wording.specs.declared.orders.Order.{Order}
-use Rattle.wording.specs.declared.orders.Order.TheVariants.{Unreadable}
 use Rattle.wording.proofs.Firsts.{has_first}
 use Rattle.wording.proofs.Fields.{ask_without_name, ask_for_nothing, ask_for_more, asks}
 
@@ -35,7 +35,7 @@ module _ (line : List ℕ) (from k : ℕ) (fits : from ≤ length line)
       let most : before space rest ≤ length rest = span_within _ rest in
       omega (arith, fits, k_is, long, most)
 
-  pub no_name : length line ≤ from + k → ReadsAs line (ask_word ∷ fields_of rest) Unreadable
+  pub no_name : length line ≤ from + k → ReadsAs line (ask_word ∷ fields_of rest) None
   no_name h = ask_without_name line rest (omega (arith, h, k_is, long))
 
   module _ (inside : from + k < length line) where
@@ -54,7 +54,7 @@ module _ (line : List ℕ) (from k : ℕ) (fits : from ≤ length line)
     name_long : length (drop (before space rest + 1) rest) ≡ length line - at
     name_long = ap length (sym name_is) ∙ length-drop at line
 
-    pub empty_name : length line ≤ at → ReadsAs line (ask_word ∷ fields_of rest) Unreadable
+    pub empty_name : length line ≤ at → ReadsAs line (ask_word ∷ fields_of rest) None
     empty_name h = ask_for_nothing line rest first_inside (sym name_is ∙ drop_of_length-le line h)
 
     -- behind the name's start: whether there is a space
@@ -64,10 +64,10 @@ module _ (line : List ℕ) (from k : ℕ) (fits : from ≤ length line)
     found_is : found ≡ ltb (before space (drop (before space rest + 1) rest)) (length (drop (before space rest + 1) rest))
     found_is = ap (λ s. list_any (λ b. eqb b space) s) (part_to_end line at ∙ name_is) ∙ has_first space (drop (before space rest + 1) rest)
 
-    pub space_in_name : found ≡ true → ReadsAs line (ask_word ∷ fields_of rest) Unreadable
+    pub space_in_name : found ≡ true → ReadsAs line (ask_word ∷ fields_of rest) None
     space_in_name h = ask_for_more line rest first_inside (ltb-true _ _ (sym found_is ∙ h))
 
-    pub whole_ask : at < length line → found ≡ false → (r : Order)
+    pub whole_ask : at < length line → found ≡ false → (r : Option Order)
         → r ≡ three_read (number_in (take (from + k - from) rest)) at → ReadsAs line (ask_word ∷ fields_of rest) r
     whole_ask some h r e =
         let digits : from + k - from ≡ before space rest = omega (arith, k_is) in

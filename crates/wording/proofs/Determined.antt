@@ -5,6 +5,7 @@ use mathlib.Core.Option.{Option, some, none}
 use Prim.Native.Nat.{ℕ, ◌≤◌}
 use native.Mathlib.Omega.{arith}
 use lib.ListN.{length, length-drop}
+use Rattle.std.specs.Prelude.{Option as Maybe, Some, None}
 use Rattle.meaning.specs.Calls.{Call}
 use Rattle.meaning.specs.Calls.Call.{ask, finish, withdraw}
 use Rattle.wording.specs.Lines.{before}
@@ -12,7 +13,7 @@ use Rattle.wording.specs.Orders.{call_read, name_start}
 use Rattle.wording.specs.Promises.{ReadLineDetermined, PutsDetermined, WritesDetermined}
 use Rattle.wording.specs.declared.orders.Asking.{Asking}
 use Rattle.wording.specs.declared.orders.Order.{Order}
-use Rattle.wording.specs.declared.orders.Order.TheVariants.{Ask, Finish, Withdraw, Unreadable}
+use Rattle.wording.specs.declared.orders.Order.TheVariants.{Ask, Finish, Withdraw}
 
 pub bytes_before_determined : (b : ℕ) (s : List ℕ) (r r' : ℕ) → r ≡ before b s → r' ≡ before b s → r ≡ r'
 bytes_before_determined b s r r' e e' = e ∙ sym e'
@@ -45,7 +46,7 @@ name_read (some (withdraw t)) = []
 
 -- the call of an ask that was read tells who asks, and where the name starts: it has a byte, so it ends where the line does
 ask_read_one : (line : List ℕ) (a b : Asking) → a.from ≤ length line → b.from ≤ length line
-    → call_read line (Ask a) ≡ call_read line (Ask b) → a ≡ b
+    → call_read line (Some (Ask a)) ≡ call_read line (Some (Ask b)) → a ≡ b
 ask_read_one line a b fits fits' e =
     let lengths = length-drop a.from line in
     let lengths' = length-drop b.from line in
@@ -54,24 +55,24 @@ ask_read_one line a b fits fits' e =
     let who : a.terminal.0 ≡ b.terminal.0 = ap who_read e in
     ap₂ (λ t k. record { terminal = record { 0 = t }; from = k }) who place
 
-read_one : (line : List ℕ) (r r' : Order) → name_start r ≤ length line → name_start r' ≤ length line → call_read line r ≡ call_read line r'
+read_one : (line : List ℕ) (r r' : Maybe Order) → name_start r ≤ length line → name_start r' ≤ length line → call_read line r ≡ call_read line r'
     → r ≡ r'
-read_one line (Ask a) (Ask b) h h' e = ap Ask (ask_read_one line a b h h' e)
-read_one line (Ask a) (Finish t) h h' e = let clash = ap kind_read e in absurd (omega (arith, clash))
-read_one line (Ask a) (Withdraw t) h h' e = let clash = ap kind_read e in absurd (omega (arith, clash))
-read_one line (Ask a) Unreadable h h' e = let clash = ap kind_read e in absurd (omega (arith, clash))
-read_one line (Finish t) (Ask b) h h' e = let clash = ap kind_read e in absurd (omega (arith, clash))
-read_one line (Finish t) (Finish u) h h' e = ap (λ n. Finish (record { 0 = n })) (ap who_read e)
-read_one line (Finish t) (Withdraw u) h h' e = let clash = ap kind_read e in absurd (omega (arith, clash))
-read_one line (Finish t) Unreadable h h' e = let clash = ap kind_read e in absurd (omega (arith, clash))
-read_one line (Withdraw t) (Ask b) h h' e = let clash = ap kind_read e in absurd (omega (arith, clash))
-read_one line (Withdraw t) (Finish u) h h' e = let clash = ap kind_read e in absurd (omega (arith, clash))
-read_one line (Withdraw t) (Withdraw u) h h' e = ap (λ n. Withdraw (record { 0 = n })) (ap who_read e)
-read_one line (Withdraw t) Unreadable h h' e = let clash = ap kind_read e in absurd (omega (arith, clash))
-read_one line Unreadable (Ask b) h h' e = let clash = ap kind_read e in absurd (omega (arith, clash))
-read_one line Unreadable (Finish u) h h' e = let clash = ap kind_read e in absurd (omega (arith, clash))
-read_one line Unreadable (Withdraw u) h h' e = let clash = ap kind_read e in absurd (omega (arith, clash))
-read_one line Unreadable Unreadable h h' e = refl
+read_one line (Some (Ask a)) (Some (Ask b)) h h' e = ap (λ a. Some (Ask a)) (ask_read_one line a b h h' e)
+read_one line (Some (Ask a)) (Some (Finish t)) h h' e = let clash = ap kind_read e in absurd (omega (arith, clash))
+read_one line (Some (Ask a)) (Some (Withdraw t)) h h' e = let clash = ap kind_read e in absurd (omega (arith, clash))
+read_one line (Some (Ask a)) None h h' e = let clash = ap kind_read e in absurd (omega (arith, clash))
+read_one line (Some (Finish t)) (Some (Ask b)) h h' e = let clash = ap kind_read e in absurd (omega (arith, clash))
+read_one line (Some (Finish t)) (Some (Finish u)) h h' e = ap (λ n. Some (Finish (record { 0 = n }))) (ap who_read e)
+read_one line (Some (Finish t)) (Some (Withdraw u)) h h' e = let clash = ap kind_read e in absurd (omega (arith, clash))
+read_one line (Some (Finish t)) None h h' e = let clash = ap kind_read e in absurd (omega (arith, clash))
+read_one line (Some (Withdraw t)) (Some (Ask b)) h h' e = let clash = ap kind_read e in absurd (omega (arith, clash))
+read_one line (Some (Withdraw t)) (Some (Finish u)) h h' e = let clash = ap kind_read e in absurd (omega (arith, clash))
+read_one line (Some (Withdraw t)) (Some (Withdraw u)) h h' e = ap (λ n. Some (Withdraw (record { 0 = n }))) (ap who_read e)
+read_one line (Some (Withdraw t)) None h h' e = let clash = ap kind_read e in absurd (omega (arith, clash))
+read_one line None (Some (Ask b)) h h' e = let clash = ap kind_read e in absurd (omega (arith, clash))
+read_one line None (Some (Finish u)) h h' e = let clash = ap kind_read e in absurd (omega (arith, clash))
+read_one line None (Some (Withdraw u)) h h' e = let clash = ap kind_read e in absurd (omega (arith, clash))
+read_one line None None h h' e = refl
 
 pub read_line_determined : ReadLineDetermined
 read_line_determined line r r' h h' = read_one line r r' h.within h'.within (h.call ∙ sym h'.call)

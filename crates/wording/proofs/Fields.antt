@@ -18,7 +18,6 @@ use Rattle.wording.specs.Orders.{ask_word, finish_word, withdraw_word, all_digit
 use Rattle.wording.specs.Orders.{two_fields, three_fields, number_in, two_read, three_read, call_read, name_start, ReadsAs}
 use Rattle.std.specs.Prelude.{Option as Maybe, Some, None}
 use Rattle.standing.specs.declared.numbers.Terminal.{Terminal}
-use Rattle.wording.specs.declared.orders.Order.TheVariants.{Unreadable}
 use Rattle.wording.proofs.Numbers.{digit_range}
 
 -- no space: one field
@@ -148,10 +147,10 @@ module _ (line word : List ℕ) where
           }
 
 -- ---- an ask
-unreadable : (line : List ℕ) (fields : List (List ℕ)) → call_in fields ≡ none → ReadsAs line fields Unreadable
+unreadable : (line : List ℕ) (fields : List (List ℕ)) → call_in fields ≡ none → ReadsAs line fields None
 unreadable line fields e = record { call = sym e; within = omega arith }
 
-pub no_second_field : (line : List ℕ) → length line ≤ before space line → ReadsAs line (fields_of line) Unreadable
+pub no_second_field : (line : List ℕ) → length line ≤ before space line → ReadsAs line (fields_of line) None
 no_second_field line h = unreadable line (fields_of line) (ap call_in (one_field line h))
 
 holds_byte : (s : List ℕ) → (s ≡ [] → ⊥) → is_not_empty s ≡ true
@@ -168,7 +167,7 @@ unfolding same three_fields
 three_none t name e = rw e refl
 
 module _ (line s : List ℕ) where
-  pub ask_without_name : length s ≤ before space s → ReadsAs line (ask_word ∷ fields_of s) Unreadable
+  pub ask_without_name : length s ≤ before space s → ReadsAs line (ask_word ∷ fields_of s) None
   unfolding same two_fields
   ask_without_name h = unreadable line _ (ap (λ fs. call_in (ask_word ∷ fs)) (one_field s h) ∙ go (is_number s) refl)
     where
@@ -186,11 +185,11 @@ module _ (line s : List ℕ) where
     in_three : (fs : List (List ℕ)) → fields_of name ≡ fs → call_in (ask_word ∷ fields_of s) ≡ call_in (ask_word ∷ t ∷ fs)
     in_three fs e = ap (λ gs. call_in (ask_word ∷ gs)) (more_fields s h ∙ ap (λ gs. t ∷ gs) e)
 
-    pub ask_for_nothing : name ≡ [] → ReadsAs line (ask_word ∷ fields_of s) Unreadable
+    pub ask_for_nothing : name ≡ [] → ReadsAs line (ask_word ∷ fields_of s) None
     unfolding three_fields fields_of
     ask_for_nothing e = unreadable line _ (in_three ([] ∷ []) (rw e refl) ∙ rw (and-false (same ask_word ask_word && is_number t)) refl)
 
-    pub ask_for_more : before space name < length name → ReadsAs line (ask_word ∷ fields_of s) Unreadable
+    pub ask_for_more : before space name < length name → ReadsAs line (ask_word ∷ fields_of s) None
     ask_for_more g =
         let (w, ws, is) = some_field (drop (before space name + 1) name) in
         unreadable line _ (in_three _ (more_fields name g ∙ ap (λ gs. take (before space name) name ∷ gs) is))

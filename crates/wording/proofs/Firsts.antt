@@ -1,9 +1,9 @@
 -- What `position`, `contains` and `==` of slices answer, and where `split_inclusive` cuts one, in the words of the lines.
-use Rattle.std.proofs.Common.{◌≡◌, ℕ, suc, Bool, true, false, cond, not, ◌&&◌, List, [], ◌∷◌, Some, None, length, ltb, ◌≤◌, refl, sym, ap, ◌∙◌, arith}
+use Rattle.std.proofs.Common.{◌≡◌, ℕ, suc, Bool, true, false, not, ◌&&◌, List, [], ◌∷◌, length, ltb, ◌≤◌, refl, sym, ap, ◌∙◌, arith}
 use Rattle.std.proofs.lemmas.Grind.{common_steps}
 use Rattle.std.specs.Prelude.{eqb}
 use Rattle.std.specs.Option.{unwrap_or}
-use Rattle.std.specs.List.{position, position_or_len, prefix_len, list_any, IsFirstMatchOrLen}
+use Rattle.std.specs.List.{position, position_or_len, list_any, IsFirstMatchOrLen}
 use Rattle.std.specs.Str.{bytes_eq}
 use Rattle.std.proofs.lemmas.List.Sums.{prefix_len-le-length, position_or_len_is}
 use Rattle.std.proofs.lemmas.Bool.{eq-eqb}
@@ -14,19 +14,8 @@ use lib.ListN.{get_or-eq_default}
 use Rattle.meaning.proofs.SetLaws.{below_or_not}
 use Rattle.meaning.specs.Names.{same}
 use Rattle.text.specs.Tokens.{span}
+use Rattle.text.proofs.Firsts.{span_is, unwrap_cut}
 use Rattle.wording.specs.Lines.{before}
-
-span_is : (test : ℕ → Bool) (s : List ℕ) → prefix_len test s ≡ span test s
-unfolding span
-span_is test [] = refl
-span_is test (b ∷ s) = go (test b) refl (span_is test s)
-  where
-    go : (t : Bool) → test b ≡ t → prefix_len test s ≡ span test s → prefix_len test (b ∷ s) ≡ span test (b ∷ s)
-    go true e rest = rw (e, rest) (omega arith)
-    go false e rest = rw e refl
-
-unwrap_cut : (a n : ℕ) → a ≤ n → unwrap_or (cond (ltb a n) (Some a) None) n ≡ a
-unwrap_cut a n h = grind (arith, common_steps)
 
 -- the first place of b, or the end
 pub before_first : (b : ℕ) (s : List ℕ) → unwrap_or (position (λ x. eqb x b) s) (length s) ≡ before b s

@@ -1,4 +1,4 @@
--- Document 01, "Program": the call that a line is.
+-- Document 01, "Program": the call that a line is. `Maybe` is the Option of the program, which reads; `Option` is that of the calls.
 use Rattle.std.specs.Prelude.{◌≡◌, Bool, true, false, cond, ◌&&◌, List, [], ◌∷◌, ℕ, ◌+◌, ◌*◌, ◌-◌, ◌≤◌, leb, length, drop}
 use Rattle.std.specs.Prelude.{Option as Maybe, Some, None}
 use Rattle.std.proofs.Math.Option.{Option, some, none}
@@ -9,7 +9,7 @@ use Rattle.meaning.specs.Calls.Call.{ask, finish, withdraw}
 use Rattle.text.specs.Classes.{is_digit}
 use Rattle.wording.specs.Lines.{fields_of}
 use Rattle.wording.specs.declared.orders.Order.{Order}
-use Rattle.wording.specs.declared.orders.Order.TheVariants.{Ask, Finish, Withdraw, Unreadable}
+use Rattle.wording.specs.declared.orders.Order.TheVariants.{Ask, Finish, Withdraw}
 
 -- the bytes of `ask`, of `finish` and of `withdraw`
 abbrev pub ask_word : List ℕ
@@ -75,34 +75,34 @@ unfoldable pub number_in : List ℕ → Maybe Terminal
 number_in s = cond (is_number s) (Some (record { 0 = value_of s })) None
 
 -- what is read in two fields, and in the last two of three: a number, and a name that starts at a place
-abbrev pub two_read : List ℕ → Maybe Terminal → Order
-two_read word (Some t) = cond (same word finish_word) (Finish t) (cond (same word withdraw_word) (Withdraw t) Unreadable)
-two_read word None = Unreadable
+abbrev pub two_read : List ℕ → Maybe Terminal → Maybe Order
+two_read word (Some t) = cond (same word finish_word) (Some (Finish t)) (cond (same word withdraw_word) (Some (Withdraw t)) None)
+two_read word None = None
 
-abbrev pub three_read : Maybe Terminal → ℕ → Order
-three_read (Some t) from = Ask (record { terminal = t; from = from })
-three_read None from = Unreadable
+abbrev pub three_read : Maybe Terminal → ℕ → Maybe Order
+three_read (Some t) from = Some (Ask (record { terminal = t; from = from }))
+three_read None from = None
 
 -- ---- The contract of `read_line`.
 
--- the call that was read in a line, and where its name starts
-abbrev pub call_read : List ℕ → Order → Option Call
-call_read line (Ask a) = some (ask a.terminal.0 (drop a.from line))
-call_read line (Finish t) = some (finish t.0)
-call_read line (Withdraw t) = some (withdraw t.0)
-call_read line Unreadable = none
+-- the call that was read in a line, if one was, and where its name starts
+abbrev pub call_read : List ℕ → Maybe Order → Option Call
+call_read line (Some (Ask a)) = some (ask a.terminal.0 (drop a.from line))
+call_read line (Some (Finish t)) = some (finish t.0)
+call_read line (Some (Withdraw t)) = some (withdraw t.0)
+call_read line None = none
 
-abbrev pub name_start : Order → ℕ
-name_start (Ask a) = a.from
-name_start (Finish t) = 0
-name_start (Withdraw t) = 0
-name_start Unreadable = 0
+abbrev pub name_start : Maybe Order → ℕ
+name_start (Some (Ask a)) = a.from
+name_start (Some (Finish t)) = 0
+name_start (Some (Withdraw t)) = 0
+name_start None = 0
 
 -- what is read in a line is the call that some fields are, and its name stands in the line
-pub record ReadsAs (line : List ℕ) (fields : List (List ℕ)) (r : Order) : Type 0 where
+pub record ReadsAs (line : List ℕ) (fields : List (List ℕ)) (r : Maybe Order) : Type 0 where
   pub call : call_read line r ≡ call_in fields
   pub within : name_start r ≤ length line
 
 -- what is read in a line is its call
-abbrev pub Reads : List ℕ → Order → Type 0
+abbrev pub Reads : List ℕ → Maybe Order → Type 0
 Reads line r = ReadsAs line (fields_of line) r

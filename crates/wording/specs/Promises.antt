@@ -1,6 +1,6 @@
 -- What is promised of lines and numbers beside the contracts. Each promise is a type here; proofs/ has a proof of each, under the same name
 -- in small letters.
-use Rattle.std.specs.Prelude.{◌≡◌, true, List, [], ◌∷◌, ◌++◌, ◌↔◌, ℕ, length}
+use Rattle.std.specs.Prelude.{◌≡◌, true, List, [], ◌∷◌, ◌++◌, ◌↔◌, ℕ, length, Option as Maybe}
 use Rattle.std.proofs.Math.Option.{some}
 use Rattle.meaning.specs.Calls.Call.{ask, finish, withdraw}
 use Rattle.wording.specs.Lines.{space, before}
@@ -11,7 +11,7 @@ use Rattle.wording.specs.declared.writing.Output.{Output}
 
 -- exactly one outcome of `read_line`, and of what puts bytes
 abbrev pub ReadLineDetermined : Type 0
-ReadLineDetermined = (line : List ℕ) (r r' : Order) → Reads line r → Reads line r' → r ≡ r'
+ReadLineDetermined = (line : List ℕ) (r r' : Maybe Order) → Reads line r → Reads line r' → r ≡ r'
 
 abbrev pub PutsDetermined : Type 0
 PutsDetermined =

@@ -18,12 +18,12 @@ pub struct Asking {
     pub from: usize,
 }
 
+// The call that a line is.
 #[derive(Clone, Copy)]
 pub enum Order {
     Ask(Asking),
     Finish(Terminal),
     Withdraw(Terminal),
-    Unreadable,
 }
 
 // How many bytes stand before the first that is b.
@@ -59,57 +59,53 @@ fn number_in(s: &[u8]) -> Option<Terminal>
 }
 
 // A finish or a withdrawal: a word, and the number behind it.
-fn read_two(word: &[u8], number: Option<Terminal>) -> Order
+fn read_two(word: &[u8], number: Option<Terminal>) -> Option<Order>
     ensures { result ≡ two_read word.now number }
 {
-    let Some(t) = number else {
-        return Order::Unreadable;
-    };
+    let t = number?;
     if is_word(word, b"finish") {
-        return Order::Finish(t);
+        return Some(Order::Finish(t));
     }
     if is_word(word, b"withdraw") {
-        return Order::Withdraw(t);
+        return Some(Order::Withdraw(t));
     }
-    Order::Unreadable
+    None
 }
 
 // An ask by a number, for the name that starts at a place.
-fn read_three(number: Option<Terminal>, from: usize) -> Order
+fn read_three(number: Option<Terminal>, from: usize) -> Option<Order>
     ensures { result ≡ three_read number from }
 {
-    match number {
-        Some(terminal) => Order::Ask(Asking { terminal, from }),
-        None => Order::Unreadable,
-    }
+    let terminal = number?;
+    Some(Order::Ask(Asking { terminal, from }))
 }
 
 // An ask, whose other fields start at a place of the line.
-fn read_ask(line: &[u8], from: usize) -> Order
+fn read_ask(line: &[u8], from: usize) -> Option<Order>
     requires { from ≤ length line.now }
     ensures { ReadsAs line.now (ask_word ∷ fields_of (drop from line.now)) result }
 {
     let end = from + bytes_before(&line[from..], SPACE);
     if line.len() <= end {
-        return Order::Unreadable;
+        return None;
     }
     let name = end + 1;
     if line.len() <= name {
-        return Order::Unreadable;
+        return None;
     }
     if line[name..].contains(&SPACE) {
-        return Order::Unreadable;
+        return None;
     }
     read_three(number_in(&line[from..end]), name)
 }
 
 // What a line asks for.
-pub fn read_line(line: &[u8]) -> Order
+pub fn read_line(line: &[u8]) -> Option<Order>
     ensures { Reads line.now result }
 {
     let end = bytes_before(line, SPACE);
     if line.len() <= end {
-        return Order::Unreadable;
+        return None;
     }
     let from = end + 1;
     let word = &line[..end];

@@ -3,14 +3,11 @@ use mathlib.Core.Path.{sym}
 use native.Mathlib.Omega.{arith}
 use lib.Seq.{length-take-le}
 use borrow.Author.Rules.{part_to_end}
-use Rattle.text.proofs.Spans.{span_within}
-use Rattle.transcripts.proofs.Wholes.{table_sound, printed_accepted, printed_refused}
+use Rattle.transcripts.proofs.Wholes.{end_within, table_sound, printed_accepted, printed_refused}
 use Rattle.transcripts.proofs.transcript.put_transcript.Goals as goal
 
 pub slice_bounds-compile-end : goal.slice_bounds-compile-end
-slice_bounds-compile-end c =
-    let most = span_within _ c.args.input.now in
-    sym (length-take-le _ _ (rw c.bytes_before-end.ensures most))
+slice_bounds-compile-end c = sym (length-take-le _ _ (end_within _ _ c.bytes_before-end.ensures))
 
 pub run-requires : goal.run-requires
 run-requires c =
@@ -22,8 +19,8 @@ returns-in-Ok c =
     printed_accepted _ _ c.bytes_before-end.ensures _
     c.compile-compiled.ensures
     (omega arith)
-    c.in-Ok.is _ c.behind.ensures
-    (rw (part_to_end c.args.input.now c.behind.result) at c.run.ensures)
+    c.in-Ok.is _ c.min.ensures
+    (rw (part_to_end c.args.input.now c.min.result) at c.run.ensures)
 
 pub returns-in-Err : goal.returns-in-Err
 returns-in-Err c =
