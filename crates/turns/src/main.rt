@@ -8,11 +8,9 @@ use inputs::read_full;
 use lines::held::Line;
 use standing::entries::{Entry, blank_entry};
 use standing::numbers::Terminal;
-use std::io;
 use std::io::Write;
-use steps::replies::{
-    Ask, AskReply, CallRefusal, FinishReply, Finished, Next, OpenReply, WithdrawReply,
-};
+use std::{fmt, io};
+use steps::replies::{Ask, CallRefusal, Finished, Next};
 use table::numbers::Operation;
 
 // What ends a line of a script.
@@ -40,44 +38,38 @@ fn number(text: &[u8]) -> (u64, &[u8]) {
     (value, &[])
 }
 
-fn show_refused<W: Write>(out: &mut W, why: CallRefusal) -> io::Result<()> {
-    writeln!(out, "refused {}", why.number())
+// What a call that is served shows.
+#[derive(Clone, Copy)]
+enum Served {
+    Opened,
+    Asked(Ask),
+    Finished(Finished),
+    Withdrawn(usize),
 }
 
-fn show_open<W: Write>(out: &mut W, reply: OpenReply) -> io::Result<()> {
-    match reply {
-        Ok(()) => writeln!(out, "opened"),
-        Err(why) => show_refused(out, why),
+impl fmt::Display for Served {
+    fn fmt<W: fmt::Write>(&self, f: &mut fmt::Formatter<W>) -> fmt::Result {
+        match self {
+            Served::Opened => f.write_str("opened"),
+            Served::Asked(Ask::Granted) => f.write_str("granted"),
+            Served::Asked(Ask::Delayed(n)) => write!(f, "delayed {n}"),
+            Served::Finished(done) => {
+                write!(f, "finished {}", done.examined)?;
+                match done.next {
+                    Next::Granted(g) => write!(f, " granted {} {}", g.terminal.0, g.operation.0),
+                    Next::Nobody => Ok(()),
+                }
+            }
+            Served::Withdrawn(p) => write!(f, "withdrawn {p}"),
+        }
     }
 }
 
-fn show_ask<W: Write>(out: &mut W, reply: AskReply) -> io::Result<()> {
+// The number of its refusal, if a call is not served.
+fn show<W: Write>(out: &mut W, reply: Result<Served, CallRefusal>) -> io::Result<()> {
     match reply {
-        Ok(Ask::Granted) => writeln!(out, "granted"),
-        Ok(Ask::Delayed(n)) => writeln!(out, "delayed {n}"),
-        Err(why) => show_refused(out, why),
-    }
-}
-
-fn show_finished<W: Write>(out: &mut W, f: Finished) -> io::Result<()> {
-    write!(out, "finished {}", f.examined)?;
-    if let Next::Granted(g) = f.next {
-        write!(out, " granted {} {}", g.terminal.0, g.operation.0)?;
-    }
-    writeln!(out)
-}
-
-fn show_finish<W: Write>(out: &mut W, reply: FinishReply) -> io::Result<()> {
-    match reply {
-        Ok(f) => show_finished(out, f),
-        Err(why) => show_refused(out, why),
-    }
-}
-
-fn show_withdraw<W: Write>(out: &mut W, reply: WithdrawReply) -> io::Result<()> {
-    match reply {
-        Ok(p) => writeln!(out, "withdrawn {p}"),
-        Err(why) => show_refused(out, why),
+        Ok(served) => writeln!(out, "{served}"),
+        Err(why) => writeln!(out, "refused {}", why.number()),
     }
 }
 
@@ -106,7 +98,7 @@ fn show_line<W: Write>(out: &mut W, line: &Line) -> io::Result<()> {
 fn compiled<W: Write>(out: &mut W, line: &mut Line, text: &[u8]) -> io::Result<()> {
     let compiled = compile(text);
     match compiled.reply {
-        Ok(()) => show_open(out, line.open(compiled.table)),
+        Ok(()) => show(out, line.open(compiled.table).map(|_| Served::Opened)),
         Err(why) => writeln!(out, "refused {} at {}", why.fault.number(), why.place),
     }
 }
@@ -151,10 +143,10 @@ fn turn<W: Write>(out: &mut W, line: &mut Line, s: &[u8]) -> io::Result<()> {
     let terminal = terminal_of(first);
     match letter {
         b'p' => compiled(out, line, fields),
-        b'o' => show_open(out, line.open(line.session.table)),
-        b'a' => show_ask(out, line.ask(terminal, behind(rest))),
-        b'f' => show_finish(out, line.finish(terminal)),
-        b'w' => show_withdraw(out, line.withdraw(terminal)),
+        b'o' => show(out, line.open(line.session.table).map(|_| Served::Opened)),
+        b'a' => show(out, line.ask(terminal, behind(rest)).map(Served::Asked)),
+        b'f' => show(out, line.finish(terminal).map(Served::Finished)),
+        b'w' => show(out, line.withdraw(terminal).map(Served::Withdrawn)),
         b's' => show_line(out, line),
         b'd' => {
             let (at, rest) = number(behind(rest));
