@@ -1,15 +1,29 @@
 // The calls, over the record and the list that the caller lends: each reads them, has the by-value call decide, and writes what it says.
 // A call that is refused writes nothing.
+ghost use Rattle.std.specs.Prelude.{◌≡◌, length};
+ghost use Rattle.standing.specs.Lists.{in_use};
+ghost use Rattle.standing.specs.Searching.{looked};
 ghost use Rattle.steps.specs.Calling.{Opens, Asks, Finishes, Withdraws};
 
 use crate::lists::{append, blank, find, take_out};
 use standing::entries::Entry;
 use standing::numbers::Terminal;
 use standing::records::Session;
-use standing::searches::{look_for, look_for_next};
+use standing::searches::{Search, look_for, look_for_next};
 use steps::calls::{Lent, opened};
 use steps::replies::{AskReply, FinishReply, OpenReply, WithdrawReply};
 use table::cells::Table;
+
+// What is lent, by value: the record, how many entries the list has, and what the search finds in those that are in use.
+fn lent(session: Session, list: &[Entry], search: Search) -> Lent
+    ensures { result ≡ record { session = session; entries = length list.now; found = looked 0 search (in_use session list.now) } }
+{
+    Lent {
+        session,
+        entries: list.len(),
+        found: find(list, session.waiting, search),
+    }
+}
 
 // A session over a table is opened.
 pub fn open(session: &mut Session, list: &mut [Entry], table: Table) -> OpenReply
@@ -25,14 +39,12 @@ pub fn ask(session: &mut Session, list: &mut [Entry], terminal: Terminal, name: 
     ensures { Asks session.old list.old terminal name.now result session.new list.new }
 {
     let before = *session;
-    let lent = Lent {
-        session: before,
-        entries: list.len(),
-        found: find(list, before.waiting, look_for(before, terminal)),
-    };
+    let lent = lent(before, list, look_for(before, terminal));
     let asked = lent.asked(terminal, name)?;
     *session = asked.session;
-    append(list, asked.place, asked.entry);
+    if let Some(w) = asked.waiter {
+        append(list, w.place, w.entry);
+    }
     Ok(asked.reply)
 }
 
@@ -41,14 +53,12 @@ pub fn finish(session: &mut Session, list: &mut [Entry], terminal: Terminal) -> 
     ensures { Finishes session.old list.old terminal result session.new list.new }
 {
     let before = *session;
-    let lent = Lent {
-        session: before,
-        entries: list.len(),
-        found: find(list, before.waiting, look_for_next(before, terminal)),
-    };
+    let lent = lent(before, list, look_for_next(before, terminal));
     let handed = lent.finished(terminal)?;
     *session = handed.session;
-    take_out(list, handed.used, handed.place);
+    if let Some(taken) = handed.taken {
+        take_out(list, taken.used, taken.place);
+    }
     Ok(handed.reply)
 }
 
@@ -57,13 +67,10 @@ pub fn withdraw(session: &mut Session, list: &mut [Entry], terminal: Terminal) -
     ensures { Withdraws session.old list.old terminal result session.new list.new }
 {
     let before = *session;
-    let lent = Lent {
-        session: before,
-        entries: list.len(),
-        found: find(list, before.waiting, look_for(before, terminal)),
-    };
+    let lent = lent(before, list, look_for(before, terminal));
     let withdrawn = lent.withdrawn(terminal)?;
     *session = withdrawn.session;
-    take_out(list, withdrawn.used, withdrawn.place);
-    Ok(withdrawn.place)
+    let taken = withdrawn.taken;
+    take_out(list, taken.used, taken.place);
+    Ok(taken.place)
 }

@@ -4,11 +4,9 @@ use mathlib.Core.Bool.{Bool, true, false, false≢true, cond, ◌&&◌}
 use mathlib.Core.List.{List}
 use mathlib.Core.Logic.{◌↔◌}
 use Prim.Native.Nat.{ℕ, suc, ◌≤◌, ◌<◌}
-use native.Mathlib.Nat.{le_refl}
 use native.Mathlib.Omega.{arith}
 use borrow.Author.Tests.{lt-ltb}
 use lib.ListN.{length, set}
-use lib.Seq.{set_out}
 use Rattle.meaning.specs.Names.{Name, key}
 use Rattle.meaning.specs.Operations.{holds, number_of}
 use Rattle.meaning.specs.Calls.Call.{ask}
@@ -48,10 +46,15 @@ one_more_fits n h = rw (lt-ltb n 64 h)
 -- the core step is the step, where there is room for one more
 module _ (s : Session) (l : List Entry) (e : Entry) (count : length (in_use s l) ≡ s.waiting) (room : s.waiting < 64) where
   abbrev grants : Asked
-  grants = record { reply = Granted; session = granting s e s.waiting; place = length l; entry = e }
+  grants = record { reply = Granted; session = granting s e s.waiting; waiter = None }
 
   abbrev delays : Asked
-  delays = record { reply = Delayed s.waiting; session = counting s (one_more s.waiting); place = s.waiting; entry = e }
+  delays =
+      record {
+        reply = Delayed s.waiting;
+        session = counting s (one_more s.waiting);
+        waiter = Some (record { place = s.waiting; entry = e });
+      }
 
   by_test : (b : Bool) → ask_outcome l (cond b grants delays)
       ≡ cond b
@@ -61,10 +64,10 @@ module _ (s : Session) (l : List Entry) (e : Entry) (count : length (in_use s l)
         session = counting s (suc s.waiting);
         list = set l (length (in_use s l)) e;
       })
-  by_test true = rw (set_out l (length l) e (le_refl (length l)))
+  by_test true = refl
   by_test false = rw (count, one_more_fits s.waiting room)
 
-  ask_core_told : ask_outcome l (ask_core s (length l) e) ≡ ask_step s l e
+  ask_core_told : ask_outcome l (ask_core s e) ≡ ask_step s l e
   unfolding ask_core ask_step
   ask_core_told = by_test (is_none s.running && meets_set s e.operation.0)
 
@@ -103,7 +106,7 @@ module _ (s : Session) (l : List Entry) (t : Terminal) (n : Name) (sound : Bool)
 
     -- 13, or the step
     past_running : known ≡ true → ¬ Runs s t.0 → (b : Bool) → is_some f.own ≡ b
-        → Good (cond b (Err Waiting) (Ok (ask_core s (length l) e)))
+        → Good (cond b (Err Waiting) (Ok (ask_core s e)))
     past_running there idle true waits =
         refused_by Waiting
         (record {
@@ -118,7 +121,7 @@ module _ (s : Session) (l : List Entry) (t : Terminal) (n : Name) (sound : Bool)
 
     -- 12, or on
     past_name : known ≡ true → (b : Bool) → runs_in s.running t ≡ b
-        → Good (cond b (Err Running) (cond (is_some f.own) (Err Waiting) (Ok (ask_core s (length l) e))))
+        → Good (cond b (Err Running) (cond (is_some f.own) (Err Waiting) (Ok (ask_core s e))))
     past_name there true runs =
         refused_by Running
         (record {
@@ -130,7 +133,7 @@ module _ (s : Session) (l : List Entry) (t : Terminal) (n : Name) (sound : Bool)
 
     -- 11, or on
     named : (b : Bool) → known ≡ b
-        → Good (ask_named s (length l) f t (cond b (Some (record { 0 = number_of (names_of s.table) (key n) })) None))
+        → Good (ask_named s f t (cond b (Some (record { 0 = number_of (names_of s.table) (key n) })) None))
     unfolding ask_known
     named false absent =
         refused_by NoOperation

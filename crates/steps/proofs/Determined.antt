@@ -27,8 +27,8 @@ number_determined r n n' = both_equal
 pub open_step_determined : (t : Table) (r r' : Session) → r ≡ opening t → r' ≡ opening t → r ≡ r'
 open_step_determined t r r' = both_equal
 
-pub ask_step_determined : (s : Session) (n : ℕ) (e : Entry) (r r' : Asked) → r ≡ ask_core s n e → r' ≡ ask_core s n e → r ≡ r'
-ask_step_determined s n e r r' = both_equal
+pub ask_step_determined : (s : Session) (e : Entry) (r r' : Asked) → r ≡ ask_core s e → r' ≡ ask_core s e → r ≡ r'
+ask_step_determined s e r r' = both_equal
 
 pub finish_step_determined : (s : Session) (f : Option Waiter) (r r' : Handed) → r ≡ finish_core s f → r' ≡ finish_core s f → r ≡ r'
 finish_step_determined s f r r' = both_equal

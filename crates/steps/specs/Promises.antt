@@ -43,7 +43,7 @@ WithdrawStepKeeps = (s : Session) (l : List Entry) (t : ℕ) → 64 ≤ length l
 abbrev pub AskCoreIsStep : Type 0
 AskCoreIsStep =
     (s : Session) (l : List Entry) (e : Entry) → 64 ≤ length l → Sound s l → e.terminal.0 < 64 → ¬ Waits s l e.terminal.0
-    → ask_outcome l (ask_core s (length l) e) ≡ ask_step s l e
+    → ask_outcome l (ask_core s e) ≡ ask_step s l e
 
 abbrev pub FinishCoreIsStep : Type 0
 FinishCoreIsStep =
@@ -58,7 +58,7 @@ WithdrawCoreIsStep =
 abbrev pub AskCoreKeeps : Type 0
 AskCoreKeeps =
     (s : Session) (l : List Entry) (e : Entry) → 64 ≤ length l → Sound s l → e.terminal.0 < 64 → ¬ Runs s e.terminal.0
-    → ¬ Waits s l e.terminal.0 → e.operation.0 < s.table.names → SoundAfter (ask_outcome l (ask_core s (length l) e))
+    → ¬ Waits s l e.terminal.0 → e.operation.0 < s.table.names → SoundAfter (ask_outcome l (ask_core s e))
 
 abbrev pub FinishCoreKeeps : Type 0
 FinishCoreKeeps =

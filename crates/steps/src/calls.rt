@@ -50,7 +50,7 @@ impl Lent {
     // An ask for an operation that exists.
     #[tactic(auto, unfolding(crate::specs::Values::ask_known))]
     fn ask_known(self, e: Entry) -> Result<Asked, CallRefusal>
-        ensures { result ≡ ask_known self.session self.entries self.found e }
+        ensures { result ≡ ask_known self.session self.found e }
     {
         if self.runs(e.terminal) {
             return Err(CallRefusal::Running);
@@ -58,7 +58,7 @@ impl Lent {
         if self.found.own.is_some() {
             return Err(CallRefusal::Waiting);
         }
-        Ok(ask_step(self.session, self.entries, e))
+        Ok(ask_step(self.session, e))
     }
 
     // An ask: 8 to 13, then its step.

@@ -6,7 +6,7 @@ ghost use Rattle.standing.specs.Soundness.{meets_set};
 ghost use Rattle.steps.specs.Steps.{opening, granting, counting, freed};
 ghost use Rattle.steps.specs.Values.{one_more, ask_core, hand_core, finish_core, withdraw_core};
 
-use crate::outcomes::{Asked, Handed, Withdrawn};
+use crate::outcomes::{Asked, Handed, Taken, Withdrawn};
 use crate::replies::{Ask, Finished, Grant, Next};
 use standing::entries::Entry;
 use standing::records::Session;
@@ -75,26 +75,26 @@ pub fn open_step(table: Table) -> Session
     }
 }
 
-// An ask: granted if the record is free and the operation meets the set, else delayed. Where nothing is put, the place is behind the
-// list, which has `entries` entries.
+// An ask: granted if the record is free and the operation meets the set, else delayed, to wait at the end of the list.
 #[tactic(auto, unfolding(crate::specs::Values::ask_core))]
-pub fn ask_step(session: Session, entries: usize, e: Entry) -> Asked
-    ensures { result ≡ ask_core session entries e }
+pub fn ask_step(session: Session, e: Entry) -> Asked
+    ensures { result ≡ ask_core session e }
 {
     let waiting = session.waiting;
     if session.running.is_none() && is_met(session, e.operation) {
         return Asked {
             reply: Ask::Granted,
             session: granted(session, e, waiting),
-            place: entries,
-            entry: e,
+            waiter: None,
         };
     }
     Asked {
         reply: Ask::Delayed(waiting),
         session: counted(session, one_more(waiting)),
-        place: waiting,
-        entry: e,
+        waiter: Some(Waiter {
+            place: waiting,
+            entry: e,
+        }),
     }
 }
 
@@ -113,8 +113,10 @@ fn hand_to(session: Session, w: Waiter) -> Handed
             next,
         },
         session: granted(session, w.entry, waiting.saturating_sub(1)),
-        used: waiting,
-        place: w.place,
+        taken: Some(Taken {
+            used: waiting,
+            place: w.place,
+        }),
     }
 }
 
@@ -132,8 +134,7 @@ pub fn finish_step(session: Session, first: Option<Waiter>) -> Handed
                 next: Next::Nobody,
             },
             session: freed,
-            used: 0,
-            place: 0,
+            taken: None,
         },
     }
 }
@@ -146,7 +147,9 @@ pub fn withdraw_step(session: Session, place: usize) -> Withdrawn
     let waiting = session.waiting;
     Withdrawn {
         session: counted(session, waiting.saturating_sub(1)),
-        used: waiting,
-        place,
+        taken: Taken {
+            used: waiting,
+            place,
+        },
     }
 }

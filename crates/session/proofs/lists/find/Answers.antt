@@ -12,5 +12,5 @@ loop-i-preserved c = rw c.examine-found.ensures (goes_on _ _ c.loop-i.i c.loop-i
 
 pub returns : goal.returns
 returns c =
-    rw (← take_min c.args.n c.args.list.now, ← c.min.ensures)
-    (ends_as _ _ c.loop-i.i c.loop-i.found c.loop-i-test.false c.loop-i.invariant)
+    let ends = ends_as _ _ c.loop-i.i c.loop-i.found c.loop-i-test.false c.loop-i.invariant in
+    rw (← take_min c.args.n c.args.list.now) (rw c.min.ensures at ends)
