@@ -3,7 +3,7 @@
 ghost use Rattle.transcripts.specs.Transcript.{Prints};
 ghost use Rattle.wabbitsen.specs.Exporting.{CompilesFor, OpensFor, AsksFor, FinishesFor, WithdrawsFor};
 
-use crate::records::{Record, holding, session_in};
+use crate::records::Record;
 use crate::replies::Reply;
 use compiler::readers::compile;
 use session::calls::{ask, finish, open, withdraw};
@@ -26,9 +26,9 @@ pub fn wabbitsen_open(record: &mut Record, list: &mut [Entry], table: &Table) ->
     ensures { OpensFor «record».old list.old table.now result «record».new list.new }
 {
     let before = *record;
-    let mut session = session_in(before);
+    let mut session = before.into();
     let reply = open(&mut session, list, *table);
-    *record = holding(before, session);
+    *record = before.holding(session);
     reply.into()
 }
 
@@ -42,9 +42,9 @@ pub fn wabbitsen_ask(
     ensures { AsksFor «record».old list.old terminal name.now result «record».new list.new }
 {
     let before = *record;
-    let mut session = session_in(before);
+    let mut session = before.into();
     let reply = ask(&mut session, list, terminal, name);
-    *record = holding(before, session);
+    *record = before.holding(session);
     reply.into()
 }
 
@@ -53,9 +53,9 @@ pub fn wabbitsen_finish(record: &mut Record, list: &mut [Entry], terminal: Termi
     ensures { FinishesFor «record».old list.old terminal result «record».new list.new }
 {
     let before = *record;
-    let mut session = session_in(before);
+    let mut session = before.into();
     let reply = finish(&mut session, list, terminal);
-    *record = holding(before, session);
+    *record = before.holding(session);
     reply.into()
 }
 
@@ -64,9 +64,9 @@ pub fn wabbitsen_withdraw(record: &mut Record, list: &mut [Entry], terminal: Ter
     ensures { WithdrawsFor «record».old list.old terminal result «record».new list.new }
 {
     let before = *record;
-    let mut session = session_in(before);
+    let mut session = before.into();
     let reply = withdraw(&mut session, list, terminal);
-    *record = holding(before, session);
+    *record = before.holding(session);
     reply.into()
 }
 

@@ -1,6 +1,6 @@
 // The session record as C sees it: who runs is two cells.
 ghost use Rattle.std.specs.Prelude.{◌≡◌};
-ghost use Rattle.wabbitsen.specs.Exporting.{running_in, session_in, terminal_cell, running_cell, holding as holds};
+ghost use Rattle.wabbitsen.specs.Exporting.{running_in, session_in, terminal_cell, running_cell, holding};
 
 use standing::numbers::Terminal;
 use standing::records::Session;
@@ -25,14 +25,16 @@ fn running_in(before: Record) -> Option<Terminal>
 }
 
 // The session that a record stands for.
-pub fn session_in(before: Record) -> Session
-    ensures { result ≡ session_in before }
-{
-    Session {
-        table: before.table,
-        set: before.set,
-        running: running_in(before),
-        waiting: before.waiting,
+impl From<Record> for Session {
+    ghost from_gives = { λ before session. session ≡ session_in before };
+
+    fn from(before: Record) -> Session {
+        Session {
+            table: before.table,
+            set: before.set,
+            running: running_in(before),
+            waiting: before.waiting,
+        }
     }
 }
 
@@ -54,15 +56,17 @@ fn running_cell(before: Record, running: Option<Terminal>) -> u8
     }
 }
 
-// The record with a session in it.
-pub fn holding(before: Record, session: Session) -> Record
-    ensures { result ≡ holds before session }
-{
-    Record {
-        table: session.table,
-        set: session.set,
-        waiting: session.waiting,
-        terminal: terminal_cell(before, session.running),
-        running: running_cell(before, session.running),
+impl Record {
+    // The record with a session in it.
+    pub fn holding(self, session: Session) -> Record
+        ensures { result ≡ holding self session }
+    {
+        Record {
+            table: session.table,
+            set: session.set,
+            waiting: session.waiting,
+            terminal: terminal_cell(self, session.running),
+            running: running_cell(self, session.running),
+        }
     }
 }
