@@ -14,6 +14,15 @@ use table::numbers::Operation;
 use wording::orders::{LF, SPACE};
 use wording::writing::Output;
 
+// Why an input or a line of it is refused before it is a text or a call, under the paper's number (document 01, "Numbers of refusal").
+#[derive(Clone, Copy)]
+pub(crate) enum InputRefusal {
+    // an unreadable line
+    Unreadable = 16,
+    // an input above 65,536 bytes
+    LongInput = 17,
+}
+
 // A number behind a word, and the line's end.
 fn put_last(out: &mut Output, word: &[u8], n: u64)
     ensures { Writes out.old (word.now ++ (decimal n ++ lf ∷ [])) out.new }

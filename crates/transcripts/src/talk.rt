@@ -5,7 +5,7 @@ ghost use Rattle.wording.specs.Lines.{lines_of};
 ghost use Rattle.transcripts.specs.Replies.{ask_line, finish_line, withdraw_line};
 ghost use Rattle.transcripts.specs.Talking.{Replied, Turned, Talked};
 
-use crate::replies::{put_ask, put_finish, put_refused, put_withdraw};
+use crate::replies::{InputRefusal, put_ask, put_finish, put_refused, put_withdraw};
 use lines::held::Line;
 use standing::numbers::Terminal;
 use wording::orders::{LF, Order, bytes_before, read_line};
@@ -41,7 +41,7 @@ fn take_turn(line: &mut Line, text: &[u8], out: &mut Output)
         Some(Order::Ask(asking)) => ask_turn(line, asking.terminal, &text[asking.from..], out),
         Some(Order::Finish(terminal)) => finish_turn(line, terminal, out),
         Some(Order::Withdraw(terminal)) => withdraw_turn(line, terminal, out),
-        None => put_refused(out, 16),
+        None => put_refused(out, InputRefusal::Unreadable as u8),
     }
 }
 

@@ -7,7 +7,7 @@ ghost use Rattle.wording.specs.Lines.{lines_of};
 ghost use Rattle.transcripts.specs.Talking.{Ran, Printed};
 ghost use Rattle.transcripts.specs.Transcript.{Prints};
 
-use crate::replies::{put_path, put_refused, put_refused_path};
+use crate::replies::{InputRefusal, put_path, put_refused, put_refused_path};
 use crate::talk::talk;
 use compiler::readers::compile;
 use lines::held::Line;
@@ -41,7 +41,7 @@ fn put_transcript(out: &mut Output, input: &[u8])
     ensures { Printed input.now out.old out.new }
 {
     if 65536 < input.len() {
-        return put_refused(out, 17);
+        return put_refused(out, InputRefusal::LongInput as u8);
     }
     let end = bytes_before(input, LF);
     let compiled = compile(&input[..end]);
