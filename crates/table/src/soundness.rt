@@ -1,8 +1,8 @@
 // Whether a table is sound: "A table is sound if ..", clause by clause.
-ghost use Rattle.std.specs.Prelude.{◌≡◌, true, ◌↔◌, ◌*◌, ◌≤◌, ◌<◌, length, take, drop};
+ghost use Rattle.std.specs.Prelude.{◌≡◌, true, ◌↔◌, ◌*◌, ◌≤◌, ◌<◌, length, take, cond, eqb, ltb};
 ghost use Rattle.table.specs.Cells.{spellings};
 ghost use Rattle.table.specs.Soundness.{Sound};
-ghost use Rattle.table.specs.Tests.{counts_test, fit_test, row_test, rows_test, operation_test, operations_test, BitsSuffice, placed_in, each_placed_test, zeros_test, fresh_test, used_test, name_test, names_test};
+ghost use Rattle.table.specs.Tests.{counts_test, fit_test, row_test, rows_test, operation_test, operations_test, BitsSuffice, placed_in, each_placed_test, zeros_test, fresh_test, name_test, names_test};
 
 use crate::cells::Table;
 use crate::numbers::Operation;
@@ -93,25 +93,22 @@ impl Table {
         (placed(&self.operations[..self.positions]) & all) == all
     }
 
-    // Name i, of n bytes, is well formed, and not among those before it.
+    // A name is well formed, and not among the first i there are.
     #[tactic(auto, unfolding(crate::specs::Tests::fresh_test))]
-    fn is_fresh(&self, i: usize, n: usize) -> bool
-        requires { (i < 32) × (n ≤ 16) }
-        ensures { result ≡ fresh_test (take n (drop (16 * i) self.now.bytes)) (take i (spellings self.now.lengths self.now.bytes)) }
+    fn is_fresh(&self, i: usize, name: &[u8]) -> bool
+        ensures { result ≡ fresh_test name.now (take i (spellings self.now.lengths self.now.bytes)) }
     {
-        let name = &self.bytes[16 * i..16 * i + n];
         well_formed(name) && self.find_among(i, name).is_none()
     }
 
-    // Name i, of n bytes, is fresh if it is in use, and else has no length.
-    fn use_fits(&self, i: usize, n: usize) -> bool
-        requires { (i < 32) × (n ≤ 16) }
-        ensures { result ≡ used_test i n self.now.names self.now.lengths self.now.bytes }
+    // Name i is fresh if it is in use, and else has no bytes.
+    fn use_fits(&self, i: usize, name: &[u8]) -> bool
+        ensures { result ≡ cond (ltb i self.now.names) (fresh_test name.now (take i (spellings self.now.lengths self.now.bytes))) (eqb (length name.now) 0) }
     {
         if i < self.names {
-            self.is_fresh(i, n)
+            self.is_fresh(i, name)
         } else {
-            n == 0
+            name.is_empty()
         }
     }
 
@@ -121,7 +118,9 @@ impl Table {
         requires { i < 32 }
         ensures { result ≡ name_test i n self.now.names self.now.lengths self.now.bytes }
     {
-        n <= 16 && self.use_fits(i, n) && zeros(&self.bytes, 16 * i + n, 16 * i + 16)
+        n <= 16
+            && self.use_fits(i, &self.bytes[16 * i..16 * i + n])
+            && zeros(&self.bytes, 16 * i + n, 16 * i + 16)
     }
 
     // The names in use fit, and the cells of the others are zero.
