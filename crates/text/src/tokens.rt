@@ -60,10 +60,18 @@ fn run(classes: &Classes, s: &[u8]) -> usize
 }
 
 // The two names are one: their keys have the same bytes.
-#[tactic(auto, using(crate::proofs::Sames::same_pointwise), unfolding(meaning::specs::Names::key))]
+#[tactic(auto, using(crate::proofs::Sames::same_pointwise, crate::proofs::Sames::byte_differs_is_false, crate::proofs::Sames::lengths_differ_is_false), unfolding(meaning::specs::Names::key))]
 pub fn same_name(m: &[u8], n: &[u8]) -> bool
     ensures { result ≡ same_name m.now n.now }
 {
+    let k = m.len();
+    if k != n.len() {
+        return false;
+    }
+    // Names that differ often start alike, and then their last bytes tell.
+    if k != 0 && m[k - 1] != n[k - 1] {
+        return false;
+    }
     m == n
 }
 
