@@ -5,11 +5,15 @@ use lib.ListN.{length, get_or, take, drop}
 use lib.Seq.{drop-cons}
 use mathlib.Core.List.{List, [], ◌∷◌}
 use mathlib.Core.Path.{◌≡◌, refl, sym, ap, ◌∙◌}
-use mathlib.Core.Bool.{Bool, true, and-eq-true_iff}
+use mathlib.Core.Bool.{Bool, true, ◌&&◌, and-eq-true_iff}
 use mathlib.Core.Logic.{⊎_elim}
 use Prim.Native.Nat.{ℕ, zero, suc, ◌+◌, ◌-◌, ◌≤◌, ◌<◌}
 use native.Mathlib.Numerals.{add-one}
 use native.Mathlib.Omega.{arith}
+use lib.Dec.{eqb, eqb-suc-zero}
+use Rattle.std.specs.Int.Bits.{bit_or, or_zero_l}
+use Rattle.std.proofs.lemmas.Nat.{le_or_l}
+use Rattle.std.proofs.lemmas.Bool.{ne_eqb}
 use Rattle.meaning.proofs.SetLaws.{below_or_not}
 use Rattle.table.specs.Tests.{passing, each}
 
@@ -75,3 +79,8 @@ pub all_part : {A : Type 0} (test : A → Bool) (d : A) (n from : ℕ) (xs : Lis
 unfolding passing
 all_part test d zero from xs h = refl
 all_part test d (suc n) from xs h = rw (drop-cons xs from d (omega arith), all_part test d n (suc from) xs (omega arith)) refl
+
+-- Numbers are 0, both, exactly if all their bits together are.
+pub or_is_zero : (a b : ℕ) → eqb (bit_or a b) 0 ≡ eqb a 0 && eqb b 0
+or_is_zero zero b = rw (or_zero_l b) refl
+or_is_zero (suc a) b = rw (eqb-suc-zero a) (ne_eqb _ _ (λ e. omega (arith, e, le_or_l (suc a) b)))

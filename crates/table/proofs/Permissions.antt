@@ -11,9 +11,16 @@ use lib.Seq.{drop-cons}
 use Rattle.std.specs.Int.Bits.{bit_or}
 use native.Mathlib.Nat.{one-mul, pow-suc}
 use Rattle.std.proofs.lemmas.Nat.{or_shifted, or_comm}
+use Rattle.meaning.proofs.SetLaws.{members_below}
 use Rattle.table.specs.declared.numbers.Operation.{Operation}
 use Rattle.table.proofs.Placed.{bit_shifted}
+use Rattle.table.proofs.PositionSets.{in_positions_with}
 use Rattle.table.specs.Following.{positions_with}
+
+-- a set of places is below 2 ^ their number
+permission_below : (os : List Operation) (o : ℕ) → positions_with os o < 2 ^ length os
+permission_below os o =
+    members_below (length os) (positions_with os o) (λ p i. ((in_positions_with os (record { 0 = 0 }) o p).0 i).0)
 
 -- what the loop keeps: `out` has the positions before place p, and those from there on are still to come
 pub record Gathered (operations : List Operation) (o p out : ℕ) : Type 0 where

@@ -30,7 +30,8 @@ impl Table {
         self.spelling(i)
     }
 
-    // The operation of a name, among the first n there are.
+    // The operation of a name, among the first n there are. Inlined, since the test of the names makes it for each of them, at every call.
+    #[inline(always)]
     pub(crate) fn find_among(&self, n: usize, name: &[u8]) -> Option<Operation>
         ensures { result ≡ found_in (take n (spellings self.now.lengths self.now.bytes)) (key name.now) }
     {
