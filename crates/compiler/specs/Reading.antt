@@ -50,8 +50,11 @@ pub record Seen : Type 0 where
   pub left : ℕ
   pub part : Part
 
+abbrev pub part_read : ℕ → Part → Seen
+part_read left p = record { number = 0; left = left; part = p }
+
 abbrev pub read_so : Reading → Seen
-read_so r = record { number = 0; left = r.left; part = r.part }
+read_so r = part_read r.left r.part
 
 abbrev pub halted : ℕ → ℕ → Seen
 halted n left = record { number = n; left = left; part = record { empty = false; first = 0; last = 0; table = zeros } }
@@ -114,6 +117,11 @@ close_by e u =
 
 unfoldable pub closed : List ℕ → Seen → Seen
 closed s e = cond (eqb e.number 0) (close_by e (behind s e)) e
+
+-- what closing answers, of an expression with this part: how many bytes are left, or the refusal
+abbrev pub closed_so : Result ℕ Halt → Part → Seen
+closed_so (Ok left) p = part_read left p
+closed_so (Err h) p = halted (number_of h.fault) h.left
 
 -- what the program makes of an answer
 abbrev pub made : Result Table Refusal → Compiled

@@ -1,9 +1,12 @@
 // The three readers, and the compiler above them. Each reads from the front of what is left of the text and says how many bytes it
 // leaves unread, so that the answer of what it calls last is its own.
-ghost use Rattle.std.specs.Prelude.{◌≡◌, ◌+◌, ◌≤◌, length};
-ghost use Rattle.compiler.specs.Reading.{fault_of, seen, read_so, closed, then_read, or_read, factor_from, sequence_from, ends_sequence, ends_expression, made, concluded, ended, StarsRead, StarryRead, FactorRead, SequenceRead, ExpressionRead};
+ghost use Rattle.std.specs.Prelude.{ℕ, ◌≡◌, ◌+◌, ◌≤◌, length};
+ghost use Rattle.compiler.specs.Reading.{fault_of, seen, read_so, part_read, closed, closed_so, then_read, or_read, factor_from, sequence_from, ends_sequence, ends_expression, made, concluded, ended, StarsRead, StarryRead, FactorRead, SequenceRead, ExpressionRead};
 ghost use Rattle.compiler.specs.Computed.{compiled};
 ghost use Rattle.compiler.specs.Compiling.{Compiles};
+ghost use Rattle.parts.specs.declared.joining.Part.{Part};
+ghost use Rattle.text.specs.Tokens.{next_token};
+ghost use Rattle.text.specs.declared.tokens.Token.TheVariants.{Name};
 
 use crate::replies::{Compiled, Refusal};
 use parts::joining::{Part, complete, either_part, star_part, then_part};
@@ -98,50 +101,64 @@ fn stars(s: &[u8]) -> usize
     }
 }
 
-// p, with the stars that may follow it.
-fn starry(s: &[u8], p: Reading) -> Reading
-    requires { p.left ≤ length s.now }
-    ensures { StarryRead s.now (read_so p) (read_so result) }
+// p, with the stars that may follow it. It is lent, as the tables of the readers are: a part is more than a kilobyte.
+fn starry(s: &[u8], p: &mut Reading)
+    requires { p.old.left ≤ length s.now }
+    ensures { StarryRead s.now (read_so p.old) (read_so p.new) }
 {
     let k = s.len() - p.left;
     let used = stars(&s[k..]);
-    if used == 0 {
-        return p;
-    }
-    let part = star_part(p.part);
-    Reading {
-        left: p.left - used,
-        part,
+    if used != 0 {
+        p.part = star_part(p.part);
+        p.left -= used;
     }
 }
 
-// e, which a `)` has to follow.
-fn close(s: &[u8], e: Reading) -> Result<Reading, Halt>
-    requires { e.left ≤ length s.now }
-    ensures { seen result ≡ closed s.now (read_so e) }
+// How many bytes are left behind the `)` that has to follow an expression, of the `left` bytes behind that.
+fn close(s: &[u8], left: usize) -> Result<usize, Halt>
+    requires { left ≤ length s.now }
+    ensures { (part : Part) → closed_so result part ≡ closed s.now (part_read left part) }
 {
-    let k = s.len() - e.left;
+    let k = s.len() - left;
     let r = next(&s[k..]);
     match r.token {
-        Token::Close => Ok(Reading {
-            left: e.left - r.used,
-            part: e.part,
-        }),
+        Token::Close => Ok(left - r.used),
         token => Err(Halt {
             fault: fault_of(token),
-            left: e.left - r.start,
+            left: left - r.start,
+        }),
+    }
+}
+
+// A name of m bytes, placed, with the stars that may follow. Out of line: its room is no part of the frame of `factor`, which stands once
+// for each open parenthesis.
+#[inline(never)]
+fn named(s: &[u8], start: usize, m: usize, used: usize, t: &Table) -> Result<Reading, Halt>
+    requires { next_token s.now ≡ record { token = Name m; start = start; used = used } }
+    ensures { (depth : ℕ) → FactorRead s.now depth t.now (seen result) }
+{
+    match place(*t, &s[start..start + m]) {
+        Ok(part) => {
+            let left = s.len() - used;
+            let mut f = Reading { left, part };
+            starry(s, &mut f);
+            Ok(f)
+        }
+        Err(fault) => Err(Halt {
+            fault,
+            left: s.len() - start,
         }),
     }
 }
 
 // An expression: a sequence, and another behind each `+`.
 #[cycle(expression_factor_sequence)]
-fn expression(s: &[u8], depth: usize, t: Table) -> Result<Reading, Halt>
-    ensures { ExpressionRead ends_expression s.now depth t (seen result) }
+fn expression(s: &[u8], depth: usize, t: &Table) -> Result<Reading, Halt>
+    ensures { ExpressionRead ends_expression s.now depth t.now (seen result) }
 {
     let mut e = sequence(s, depth, t)?;
     while let Some(from) = next_sequence(s, e.left) {
-        let q = sequence(&s[from..], depth, e.part.table)?;
+        let q = sequence(&s[from..], depth, &e.part.table)?;
         e = or_read(e, q);
     }
     Ok(e)
@@ -149,12 +166,12 @@ fn expression(s: &[u8], depth: usize, t: Table) -> Result<Reading, Halt>
 
 // A sequence: a factor, and another behind each `;` or at once.
 #[cycle(expression_factor_sequence)]
-fn sequence(s: &[u8], depth: usize, t: Table) -> Result<Reading, Halt>
-    ensures { SequenceRead ends_sequence s.now depth t (seen result) }
+fn sequence(s: &[u8], depth: usize, t: &Table) -> Result<Reading, Halt>
+    ensures { SequenceRead ends_sequence s.now depth t.now (seen result) }
 {
     let mut q = factor(s, depth, t)?;
     while let Some(from) = next_factor(s, q.left) {
-        let f = factor(&s[from..], depth, q.part.table)?;
+        let f = factor(&s[from..], depth, &q.part.table)?;
         q = then_read(q, f);
     }
     Ok(q)
@@ -162,23 +179,14 @@ fn sequence(s: &[u8], depth: usize, t: Table) -> Result<Reading, Halt>
 
 // A factor: a name, or an expression in parentheses, with the stars that may follow.
 #[cycle(expression_factor_sequence)]
-fn factor(s: &[u8], depth: usize, t: Table) -> Result<Reading, Halt>
-    ensures { FactorRead s.now depth t (seen result) }
+fn factor(s: &[u8], depth: usize, t: &Table) -> Result<Reading, Halt>
+    ensures { FactorRead s.now depth t.now (seen result) }
 {
     let n = s.len();
     let r = next(s);
     let start = r.start;
     match r.token {
-        Token::Name(m) => match place(t, &s[start..start + m]) {
-            Ok(part) => {
-                let left = n - r.used;
-                Ok(starry(s, Reading { left, part }))
-            }
-            Err(fault) => Err(Halt {
-                fault,
-                left: n - start,
-            }),
-        },
+        Token::Name(m) => named(s, start, m, r.used, t),
         Token::Open => {
             if 16 <= depth {
                 return Err(Halt {
@@ -187,9 +195,11 @@ fn factor(s: &[u8], depth: usize, t: Table) -> Result<Reading, Halt>
                 });
             }
             let from = r.used;
-            let e = expression(&s[from..], depth + 1, t)?;
-            let closed = close(s, e)?;
-            Ok(starry(s, closed))
+            let mut e = expression(&s[from..], depth + 1, t)?;
+            let left = close(s, e.left)?;
+            e.left = left;
+            starry(s, &mut e);
+            Ok(e)
         }
         token => Err(Halt {
             fault: fault_of(token),
@@ -247,7 +257,7 @@ fn read(text: &[u8]) -> Result<Table, Refusal>
     match r.token {
         Token::Path => {
             let from = r.used;
-            match expression(&text[from..], 0, table_of_zeros()) {
+            match expression(&text[from..], 0, &table_of_zeros()) {
                 Ok(e) => end(text, e),
                 Err(halt) => Err(Refusal {
                     fault: halt.fault,

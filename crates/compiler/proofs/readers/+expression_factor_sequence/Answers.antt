@@ -1,10 +1,9 @@
 -- The readers' cycle: what the code leaves to be shown, each by a lemma of Expressions, Sequences, FactorPaths or Onwards.
-use Rattle.std.proofs.Common.{arith, rules, ◌≡◌, ◌-◌, length, ℕ, refl, sym, ap, ◌∙◌}
+use Rattle.std.proofs.Common.{arith, rules, ◌≡◌, refl, sym, ◌∙◌}
 use borrow.Author.Rules.{part_to_end}
 use lib.ListN.{length-drop}
-use Rattle.text.proofs.FaultNumbers.{fault_some}
-use Rattle.parts.proofs.NameParts.{refused_by}
-use Rattle.compiler.specs.Reading.{read_so, halted}
+use Rattle.std.specs.Prelude.{Err}
+use Rattle.compiler.specs.Reading.{seen, read_so, part_read}
 use Rattle.compiler.proofs.Onwards.{sequence_follows, factor_follows}
 use Rattle.compiler.proofs.Expressions as expressions
 use Rattle.compiler.proofs.Sequences as sequences
@@ -16,33 +15,33 @@ use Rattle.compiler.proofs.readers.+expression_factor_sequence.Goals as goal
 
 pub expression-next_sequence-requires : goal.expression-next_sequence-requires
 expression-next_sequence-requires t c =
-    let given = c.loop-from.invariant c.args.t (expressions.expression_starts c.args.s.now c.args.depth c.args.t (read_so c.in_ok-e.e) c.in_ok-e.ensures) in
+    let given = c.loop-from.invariant c.args.t.now (expressions.expression_starts c.args.s.now c.args.depth c.args.t.now (read_so c.in_ok-e.e) c.in_ok-e.ensures) in
     given.within
 
 pub expression-slice_bounds-sequence-count : goal.expression-slice_bounds-sequence-count
 expression-slice_bounds-sequence-count t c =
-    let given = c.loop-from.invariant c.args.t (expressions.expression_starts c.args.s.now c.args.depth c.args.t (read_so c.in_ok-e.e) c.in_ok-e.ensures) in
+    let given = c.loop-from.invariant c.args.t.now (expressions.expression_starts c.args.s.now c.args.depth c.args.t.now (read_so c.in_ok-e.e) c.in_ok-e.ensures) in
     let on = sequence_follows c.args.s.now (read_so c.loop-from.e) given.within c.in-Some.from (sym c.next_sequence.ensures ∙ c.in-Some.is) in
     on.fits
 
 pub expression-slice_bounds-sequence-start : goal.expression-slice_bounds-sequence-start
 expression-slice_bounds-sequence-start t c =
-    let given = c.loop-from.invariant c.args.t (expressions.expression_starts c.args.s.now c.args.depth c.args.t (read_so c.in_ok-e.e) c.in_ok-e.ensures) in
+    let given = c.loop-from.invariant c.args.t.now (expressions.expression_starts c.args.s.now c.args.depth c.args.t.now (read_so c.in_ok-e.e) c.in_ok-e.ensures) in
     let on = sequence_follows c.args.s.now (read_so c.loop-from.e) given.within c.in-Some.from (sym c.next_sequence.ensures ∙ c.in-Some.is) in
     on.fits
 
 pub expression-returns-in_err-q : goal.expression-returns-in_err-q
 expression-returns-in_err-q t c =
-    let given = c.loop-from.invariant c.args.t (expressions.expression_starts c.args.s.now c.args.depth c.args.t (read_so c.in_ok-e.e) c.in_ok-e.ensures) in
+    let given = c.loop-from.invariant c.args.t.now (expressions.expression_starts c.args.s.now c.args.depth c.args.t.now (read_so c.in_ok-e.e) c.in_ok-e.ensures) in
     let on = sequence_follows c.args.s.now (read_so c.loop-from.e) given.within c.in-Some.from (sym c.next_sequence.ensures ∙ c.in-Some.is) in
     let same : c.from_residual-in_err-q.result ≡ c.sequence-in-Some.result = search rules in
     rw same
-    (expressions.sequence_is_refused c.args.s.now c.args.depth c.args.t (read_so c.loop-from.e) given refl c.in-Some.from on _ refl _
+    (expressions.sequence_is_refused c.args.s.now c.args.depth c.args.t.now (read_so c.loop-from.e) given refl c.in-Some.from on _ refl _
     c.sequence-in-Some.ensures (halted_some _ _ c.in_err-q.was))
 
 pub expression-loop-from-preserved : goal.expression-loop-from-preserved
 expression-loop-from-preserved t c =
-    let given = c.loop-from.invariant c.args.t (expressions.expression_starts c.args.s.now c.args.depth c.args.t (read_so c.in_ok-e.e) c.in_ok-e.ensures) in
+    let given = c.loop-from.invariant c.args.t.now (expressions.expression_starts c.args.s.now c.args.depth c.args.t.now (read_so c.in_ok-e.e) c.in_ok-e.ensures) in
     let on = sequence_follows c.args.s.now (read_so c.loop-from.e) given.within c.in-Some.from (sym c.next_sequence.ensures ∙ c.in-Some.is) in
     λ t' h.
     expressions.expression_grows c.args.s.now c.args.depth t' (read_so c.loop-from.e) (c.loop-from.invariant t' h) refl c.in-Some.from on _ refl
@@ -50,39 +49,39 @@ expression-loop-from-preserved t c =
 
 pub expression-returns : goal.expression-returns
 expression-returns t c =
-    let given = c.loop-from.invariant c.args.t (expressions.expression_starts c.args.s.now c.args.depth c.args.t (read_so c.in_ok-e.e) c.in_ok-e.ensures) in
-    expressions.expression_ends c.args.s.now c.args.depth c.args.t (read_so c.loop-from.e) given refl
+    let given = c.loop-from.invariant c.args.t.now (expressions.expression_starts c.args.s.now c.args.depth c.args.t.now (read_so c.in_ok-e.e) c.in_ok-e.ensures) in
+    expressions.expression_ends c.args.s.now c.args.depth c.args.t.now (read_so c.loop-from.e) given refl
     (sym c.next_sequence.ensures ∙ c.in_default.is)
 
 pub sequence-next_factor-requires : goal.sequence-next_factor-requires
 sequence-next_factor-requires t c =
-    let given = c.loop-from.invariant c.args.t (sequences.sequence_starts c.args.s.now c.args.depth c.args.t (read_so c.in_ok-q.q) c.in_ok-q.ensures) in
+    let given = c.loop-from.invariant c.args.t.now (sequences.sequence_starts c.args.s.now c.args.depth c.args.t.now (read_so c.in_ok-q.q) c.in_ok-q.ensures) in
     given.within
 
 pub sequence-slice_bounds-factor-count : goal.sequence-slice_bounds-factor-count
 sequence-slice_bounds-factor-count t c =
-    let given = c.loop-from.invariant c.args.t (sequences.sequence_starts c.args.s.now c.args.depth c.args.t (read_so c.in_ok-q.q) c.in_ok-q.ensures) in
+    let given = c.loop-from.invariant c.args.t.now (sequences.sequence_starts c.args.s.now c.args.depth c.args.t.now (read_so c.in_ok-q.q) c.in_ok-q.ensures) in
     let on = factor_follows c.args.s.now (read_so c.loop-from.q) given.within c.in-Some.from (sym c.next_factor.ensures ∙ c.in-Some.is) in
     on.fits
 
 pub sequence-slice_bounds-factor-start : goal.sequence-slice_bounds-factor-start
 sequence-slice_bounds-factor-start t c =
-    let given = c.loop-from.invariant c.args.t (sequences.sequence_starts c.args.s.now c.args.depth c.args.t (read_so c.in_ok-q.q) c.in_ok-q.ensures) in
+    let given = c.loop-from.invariant c.args.t.now (sequences.sequence_starts c.args.s.now c.args.depth c.args.t.now (read_so c.in_ok-q.q) c.in_ok-q.ensures) in
     let on = factor_follows c.args.s.now (read_so c.loop-from.q) given.within c.in-Some.from (sym c.next_factor.ensures ∙ c.in-Some.is) in
     on.fits
 
 pub sequence-returns-in_err-f : goal.sequence-returns-in_err-f
 sequence-returns-in_err-f t c =
-    let given = c.loop-from.invariant c.args.t (sequences.sequence_starts c.args.s.now c.args.depth c.args.t (read_so c.in_ok-q.q) c.in_ok-q.ensures) in
+    let given = c.loop-from.invariant c.args.t.now (sequences.sequence_starts c.args.s.now c.args.depth c.args.t.now (read_so c.in_ok-q.q) c.in_ok-q.ensures) in
     let on = factor_follows c.args.s.now (read_so c.loop-from.q) given.within c.in-Some.from (sym c.next_factor.ensures ∙ c.in-Some.is) in
     let same : c.from_residual-in_err-f.result ≡ c.factor-in-Some.result = search rules in
     rw same
-    (sequences.factor_refused c.args.s.now c.args.depth c.args.t (read_so c.loop-from.q) given refl c.in-Some.from on _ refl _
+    (sequences.factor_refused c.args.s.now c.args.depth c.args.t.now (read_so c.loop-from.q) given refl c.in-Some.from on _ refl _
     c.factor-in-Some.ensures (halted_some _ _ c.in_err-f.was))
 
 pub sequence-loop-from-preserved : goal.sequence-loop-from-preserved
 sequence-loop-from-preserved t c =
-    let given = c.loop-from.invariant c.args.t (sequences.sequence_starts c.args.s.now c.args.depth c.args.t (read_so c.in_ok-q.q) c.in_ok-q.ensures) in
+    let given = c.loop-from.invariant c.args.t.now (sequences.sequence_starts c.args.s.now c.args.depth c.args.t.now (read_so c.in_ok-q.q) c.in_ok-q.ensures) in
     let on = factor_follows c.args.s.now (read_so c.loop-from.q) given.within c.in-Some.from (sym c.next_factor.ensures ∙ c.in-Some.is) in
     λ t' h.
     sequences.sequence_grows c.args.s.now c.args.depth t' (read_so c.loop-from.q) (c.loop-from.invariant t' h) refl c.in-Some.from on _ refl
@@ -90,37 +89,18 @@ sequence-loop-from-preserved t c =
 
 pub sequence-returns : goal.sequence-returns
 sequence-returns t c =
-    let given = c.loop-from.invariant c.args.t (sequences.sequence_starts c.args.s.now c.args.depth c.args.t (read_so c.in_ok-q.q) c.in_ok-q.ensures) in
-    sequences.sequence_ends c.args.s.now c.args.depth c.args.t (read_so c.loop-from.q) given refl
+    let given = c.loop-from.invariant c.args.t.now (sequences.sequence_starts c.args.s.now c.args.depth c.args.t.now (read_so c.in_ok-q.q) c.in_ok-q.ensures) in
+    sequences.sequence_ends c.args.s.now c.args.depth c.args.t.now (read_so c.loop-from.q) given refl
     (sym c.next_factor.ensures ∙ c.in_default.is)
-
-pub factor-overflow_add-start : goal.factor-overflow_add-start
-factor-overflow_add-start t c = omega (arith, factors.name_fits c.args.s.now c.next-r.result c.next-r.ensures _ c.in-Name.is, c.well_formed)
-
-pub factor-slice_bounds-place-end : goal.factor-slice_bounds-place-end
-factor-slice_bounds-place-end t c = factors.name_fits c.args.s.now c.next-r.result c.next-r.ensures _ c.in-Name.is
-
-pub factor-overflow_sub-left : goal.factor-overflow_sub-left
-factor-overflow_sub-left t c = factors.used_fits c.args.s.now c.next-r.result c.next-r.ensures
 
 pub factor-overflow_sub-result : goal.factor-overflow_sub-result
 factor-overflow_sub-result t c = factors.start_fits c.args.s.now c.next-r.result c.next-r.ensures
 
-pub factor-overflow_sub-result-then-depth-ge16 : goal.factor-overflow_sub-result-then-depth-ge16
-factor-overflow_sub-result-then-depth-ge16 t c = factors.start_fits c.args.s.now c.next-r.result c.next-r.ensures
-
 pub factor-overflow_sub-result-in_default : goal.factor-overflow_sub-result-in_default
 factor-overflow_sub-result-in_default t c = factors.start_fits c.args.s.now c.next-r.result c.next-r.ensures
 
-pub factor-returns-in-Ok : goal.factor-returns-in-Ok
-factor-returns-in-Ok t c =
-    factors.reads_name _ _ c.next-r.ensures _ _ _ _ c.in-Name.is _ c.place.ensures _ c.in-Ok.is c.starry.ensures
-
-pub factor-returns-in-Err : goal.factor-returns-in-Err
-factor-returns-in-Err t c =
-    let number = ap refused_by c.in-Err.is in
-    factors.reads_limit _ _ c.next-r.ensures _ _ _ _ c.in-Name.is _ c.place.ensures (λ z. fault_some c.in-Err.fault (sym number ∙ z))
-    (ap (λ (n : ℕ). halted n (length c.args.s.now - c.next-r.result.start)) (sym number))
+pub factor-returns-in-Name : goal.factor-returns-in-Name
+factor-returns-in-Name t c = c.named.ensures c.args.depth
 
 pub factor-returns-then-depth-ge16 : goal.factor-returns-then-depth-ge16
 factor-returns-then-depth-ge16 t c =
@@ -150,22 +130,26 @@ factor-returns-in_err-e-in-Open t c =
     (factors.reads_inside _ _ c.next-r.ensures _ _ c.in-Open.is c.if-depth-ge16.false _ c.expression.ensures
     (halted_some _ _ c.in_err-e-in-Open.was))
 
-pub factor-returns-in_err-closed-in-Open : goal.factor-returns-in_err-closed-in-Open
-factor-returns-in_err-closed-in-Open t c =
-    let same : c.from_residual-in_err-closed-in-Open.result ≡ c.close.result = search rules in
+pub factor-returns-in_err-left-in-Open : goal.factor-returns-in_err-left-in-Open
+factor-returns-in_err-left-in-Open t c =
+    let halt = c.in_err-left-in-Open.field-0.0 in
+    let same : c.from_residual-in_err-left-in-Open.result ≡ Err halt = search rules in
+    let closing = c.close.ensures c.in_ok-e-in-Open.e.part in
     rw same
     (factors.reads_open _ _ c.next-r.ensures _ _ _ c.in-Open.is c.if-depth-ge16.false (read_so c.in_ok-e-in-Open.e)
-    c.in_ok-e-in-Open.ensures _ c.close.ensures (starry_refused _ _ (halted_some _ _ c.in_err-closed-in-Open.was)))
+    c.in_ok-e-in-Open.ensures (seen (Err halt)) (rw c.in_err-left-in-Open.was at closing) (starry_refused _ _ (halted_some (Err halt) halt refl)))
 
-pub factor-starry-requires-in-Open : goal.factor-starry-requires-in-Open
-factor-starry-requires-in-Open t c =
-    factors.closed_fits c.args.s.now c.next-r.result c.next-r.ensures _ _ (read_so c.in_ok-e-in-Open.e) (read_so c.in_ok-closed-in-Open.closed)
-    c.in_ok-e-in-Open.ensures c.in_ok-closed-in-Open.ensures
+pub factor-starry-requires : goal.factor-starry-requires
+factor-starry-requires t c =
+    factors.closed_fits c.args.s.now c.next-r.result c.next-r.ensures _ _ (read_so c.in_ok-e-in-Open.e)
+    (part_read c.in_ok-left-in-Open.left c.in_ok-e-in-Open.e.part) c.in_ok-e-in-Open.ensures
+    (c.in_ok-left-in-Open.ensures c.in_ok-e-in-Open.e.part)
 
-pub factor-returns-in_ok-closed-in-Open : goal.factor-returns-in_ok-closed-in-Open
-factor-returns-in_ok-closed-in-Open t c =
+pub factor-returns-in_ok-left-in-Open : goal.factor-returns-in_ok-left-in-Open
+factor-returns-in_ok-left-in-Open t c =
     factors.reads_open _ _ c.next-r.ensures _ _ _ c.in-Open.is c.if-depth-ge16.false (read_so c.in_ok-e-in-Open.e)
-    c.in_ok-e-in-Open.ensures (read_so c.in_ok-closed-in-Open.closed) c.in_ok-closed-in-Open.ensures c.starry-in-Open.ensures
+    c.in_ok-e-in-Open.ensures (part_read c.in_ok-left-in-Open.left c.in_ok-e-in-Open.e.part)
+    (c.in_ok-left-in-Open.ensures c.in_ok-e-in-Open.e.part) c.starry.ensures
 
 pub factor-returns-in_default : goal.factor-returns-in_default
 factor-returns-in_default t c =

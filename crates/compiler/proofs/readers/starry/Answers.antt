@@ -1,18 +1,16 @@
 -- `readers::starry` meets its contract: plain or starred (Starry).
 use mathlib.Core.Path.{refl, ap}
-use Prim.Native.Nat.{ℕ, ◌-◌}
+use Prim.Native.Nat.{◌-◌}
+use native.Mathlib.Omega.{arith}
 use Rattle.parts.specs.declared.joining.Part.{Part}
-use Rattle.compiler.specs.Reading.{Seen}
+use Rattle.compiler.specs.Reading.{part_read}
 use Rattle.compiler.proofs.Starry.{starry_plain, starry_starred}
 use Rattle.compiler.proofs.readers.starry.Goals as goal
 
-abbrev left_with : ℕ → Part → Seen
-left_with n p = record { number = 0; left = n; part = p }
+pub returns-else-used-ne0 : goal.returns-else-used-ne0
+returns-else-used-ne0 c = starry_plain _ _ _ refl c.requires c.stars-used.ensures (omega arith)
 
-pub returns-then-used-eq0 : goal.returns-then-used-eq0
-returns-then-used-eq0 c = starry_plain _ _ _ refl c.requires c.stars-used.ensures c.if-used-eq0.true
-
-pub returns : goal.returns
-returns c =
-    starry_starred _ _ _ refl c.requires c.stars-used.ensures _ c.if-used-eq0.false
-    (ap (λ (p : Part). left_with (c.args.p.left - c.stars-used.result) p) c.star_part-part.ensures)
+pub returns-then-used-ne0 : goal.returns-then-used-ne0
+returns-then-used-ne0 c =
+    starry_starred _ _ _ refl c.requires c.stars-used.ensures _ c.if-used-ne0.true
+    (ap (λ (p : Part). part_read (c.args.p.now.left - c.stars-used.result) p) c.star_part-p.ensures)
