@@ -14,9 +14,11 @@ use steps::calls::{Lent, opened};
 use steps::replies::{AskReply, FinishReply, OpenReply, WithdrawReply};
 use table::cells::Table;
 
-// What is lent, by value: the record, how many entries the list has, and what the search finds in those that are in use.
-fn lent(session: Session, list: &[Entry], search: Search) -> Lent
-    ensures { result ≡ record { session = session; entries = length list.now; found = looked 0 search (in_use session list.now) } }
+// What is lent: the record, how many entries the list has, and what the search finds in those that are in use.
+// Inlined, so that LLVM sees that the record that is lent is the one that is written: else it copies it over itself by C's `memmove`.
+#[inline(always)]
+fn lent<'a>(session: &'a Session, list: &[Entry], search: Search) -> Lent<'a>
+    ensures { result ≡ record { session = session.entry; entries = length list.now; found = looked 0 search (in_use session.now list.now) } }
 {
     Lent {
         session,
@@ -38,8 +40,7 @@ pub fn open(session: &mut Session, list: &mut [Entry], table: Table) -> OpenRepl
 pub fn ask(session: &mut Session, list: &mut [Entry], terminal: Terminal, name: &[u8]) -> AskReply
     ensures { Asks session.old list.old terminal name.now result session.new list.new }
 {
-    let before = *session;
-    let lent = lent(before, list, look_for(before, terminal));
+    let lent = lent(session, list, look_for(*session, terminal));
     let asked = lent.asked(terminal, name)?;
     *session = asked.session;
     if let Some(w) = asked.waiter {
@@ -52,8 +53,7 @@ pub fn ask(session: &mut Session, list: &mut [Entry], terminal: Terminal, name: 
 pub fn finish(session: &mut Session, list: &mut [Entry], terminal: Terminal) -> FinishReply
     ensures { Finishes session.old list.old terminal result session.new list.new }
 {
-    let before = *session;
-    let lent = lent(before, list, look_for_next(before, terminal));
+    let lent = lent(session, list, look_for_next(*session, terminal));
     let handed = lent.finished(terminal)?;
     *session = handed.session;
     if let Some(taken) = handed.taken {
@@ -66,8 +66,7 @@ pub fn finish(session: &mut Session, list: &mut [Entry], terminal: Terminal) -> 
 pub fn withdraw(session: &mut Session, list: &mut [Entry], terminal: Terminal) -> WithdrawReply
     ensures { Withdraws session.old list.old terminal result session.new list.new }
 {
-    let before = *session;
-    let lent = lent(before, list, look_for(before, terminal));
+    let lent = lent(session, list, look_for(*session, terminal));
     let withdrawn = lent.withdrawn(terminal)?;
     *session = withdrawn.session;
     let taken = withdrawn.taken;

@@ -5,6 +5,7 @@ ghost use Rattle.standing.specs.Searching.{looked};
 
 use standing::entries::{Entry, blank_entry};
 use standing::searches::{Search, examine};
+use std::mem;
 
 // The first n entries, examined one after the other; fewer if there are fewer.
 pub fn find(list: &[Entry], n: usize, search: Search) -> Search
@@ -27,14 +28,14 @@ pub fn append(list: &mut [Entry], at: usize, e: Entry)
     }
 }
 
-// Of the first n entries the one at a place is taken out: each entry behind it moves up, and the last place becomes blank.
+// Of the first n entries the one at a place is taken out: from the back, each place gets the entry behind it, once, and the last place
+// becomes blank. The entry that leaves is then in hand. A library's move of the whole part would want C's `memmove`.
 pub fn take_out(list: &mut [Entry], n: usize, at: usize)
     ensures { list.new ≡ taken_out n at list.old }
 {
-    let end = n.min(list.len());
-    if at < end {
-        list[at..end].rotate_left(1);
-        list[end - 1] = blank_entry();
+    let mut moving = blank_entry();
+    for i in (at..n.min(list.len())).rev() {
+        moving = mem::replace(&mut list[i], moving);
     }
 }
 

@@ -13,22 +13,23 @@ use standing::searches::Search;
 use standing::soundness::record_is_sound;
 use table::cells::Table;
 
-// What a call is lent, by value: the record, how many entries the list has, and what looking through those in use has found.
+// What a call is lent: the record, how many entries the list has, and what looking through those in use has found. The record is not
+// copied into it.
 #[derive(Clone, Copy)]
-pub struct Lent {
-    pub session: Session,
+pub struct Lent<'a> {
+    pub session: &'a Session,
     pub entries: usize,
     pub found: Search,
 }
 
-impl Lent {
+impl Lent<'_> {
     // 8, 9 or 10, whichever comes first.
     #[tactic(auto, unfolding(crate::specs::Values::first_refusal))]
-    fn refusal(self, terminal: Terminal) -> Result<(), CallRefusal>
-        ensures { Decided (RecordSound self.session) (λ sound. first_refusal sound self.entries self.found terminal) result }
+    fn refusal(&self, terminal: Terminal) -> Result<(), CallRefusal>
+        ensures { Decided (RecordSound self.now.session.now) (λ sound. first_refusal sound self.now.entries self.now.found terminal) result }
     {
         // Known before 8 is tested, so that one value says it in every reply; no reply depends on the order.
-        let sound = record_is_sound(self.session);
+        let sound = record_is_sound(*self.session);
         if self.entries < 64 {
             return Err(CallRefusal::ShortList);
         }
@@ -41,16 +42,16 @@ impl Lent {
         Ok(())
     }
 
-    fn runs(self, terminal: Terminal) -> bool
-        ensures { result ≡ runs_in self.session.running terminal }
+    fn runs(&self, terminal: Terminal) -> bool
+        ensures { result ≡ runs_in self.now.session.now.running terminal }
     {
         self.session.running == Some(terminal)
     }
 
     // An ask for an operation that exists.
     #[tactic(auto, unfolding(crate::specs::Values::ask_known))]
-    fn ask_known(self, e: Entry) -> Result<Asked, CallRefusal>
-        ensures { result ≡ ask_known self.session self.found e }
+    fn ask_known(&self, e: Entry) -> Result<Asked, CallRefusal>
+        ensures { result ≡ ask_known self.now.session.now self.now.found e }
     {
         if self.runs(e.terminal) {
             return Err(CallRefusal::Running);
@@ -58,13 +59,13 @@ impl Lent {
         if self.found.own.is_some() {
             return Err(CallRefusal::Waiting);
         }
-        Ok(ask_step(self.session, e))
+        Ok(ask_step(*self.session, e))
     }
 
     // An ask: 8 to 13, then its step.
     #[tactic(auto, unfolding(crate::specs::Values::ask_value))]
-    pub fn asked(self, terminal: Terminal, name: &[u8]) -> Result<Asked, CallRefusal>
-        ensures { AskedBy self.session self.entries self.found terminal name.now result }
+    pub fn asked(&self, terminal: Terminal, name: &[u8]) -> Result<Asked, CallRefusal>
+        ensures { AskedBy self.now.session.now self.now.entries self.now.found terminal name.now result }
     {
         self.refusal(terminal)?;
         match self.session.table.find(name) {
@@ -78,25 +79,25 @@ impl Lent {
 
     // A finish: 8, 9, 10, 14, then its step.
     #[tactic(auto, unfolding(crate::specs::Values::finish_value))]
-    pub fn finished(self, terminal: Terminal) -> Result<Handed, CallRefusal>
-        ensures { FinishedBy self.session self.entries self.found terminal result }
+    pub fn finished(&self, terminal: Terminal) -> Result<Handed, CallRefusal>
+        ensures { FinishedBy self.now.session.now self.now.entries self.now.found terminal result }
     {
         self.refusal(terminal)?;
         if !self.runs(terminal) {
             return Err(CallRefusal::NotRunning);
         }
-        Ok(finish_step(self.session, self.found.first))
+        Ok(finish_step(*self.session, self.found.first))
     }
 
     // A withdrawal: 8, 9, 10, 15, then its step.
     #[tactic(auto, unfolding(crate::specs::Values::withdraw_value))]
-    pub fn withdrawn(self, terminal: Terminal) -> Result<Withdrawn, CallRefusal>
-        ensures { WithdrawnBy self.session self.entries self.found terminal result }
+    pub fn withdrawn(&self, terminal: Terminal) -> Result<Withdrawn, CallRefusal>
+        ensures { WithdrawnBy self.now.session.now self.now.entries self.now.found terminal result }
     {
         self.refusal(terminal)?;
         match self.found.own {
             None => Err(CallRefusal::NotWaiting),
-            Some(w) => Ok(withdraw_step(self.session, w.place)),
+            Some(w) => Ok(withdraw_step(*self.session, w.place)),
         }
     }
 }

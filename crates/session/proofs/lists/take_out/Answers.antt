@@ -1,11 +1,19 @@
--- `session::lists::take_out` meets its contract: the entries from its place on are turned (TakingOut.antt), or there is none at it.
-use Rattle.session.proofs.TakingOut.{taken_out_by_turning, none_there}
+-- `session::lists::take_out` meets its contract, by the turns of TakingOut.antt.
+use Rattle.std.proofs.Common.{◌∙◌, arith, sym}
+use lib.ListN.{length-set}
+use Rattle.session.proofs.TakingOut.{starts, goes_on, none_left}
 use Rattle.session.proofs.lists.take_out.Goals as goal
 
-pub returns-then-at-end : goal.returns-then-at-end
-returns-then-at-end c =
-    rw c.blank_entry.ensures
-    (taken_out_by_turning c.args.n c.args.at c.min-end.result c.args.list.now _ c.min-end.ensures c.if-at-end.true c.rotate_left.ensures.after)
+pub loop-i-init : goal.loop-i-init
+loop-i-init c = (omega (arith, c.min-i.ensures), starts _ _ c.args.n c.args.at c.args.list.now c.blank_entry-moving.ensures c.min-i.ensures)
 
-pub returns-else-at-end : goal.returns-else-at-end
-returns-else-at-end c = none_there c.args.n c.args.at c.args.list.now (rw (← c.min-end.ensures) c.if-at-end.false)
+pub loop-i-preserved : goal.loop-i-preserved
+loop-i-preserved c =
+    let l = c.loop-i in
+    let said = c.replace-moving.ensures in (
+      simp length-set (omega (arith, l.invariant.0)),
+      rw (said.value, said.after) (sym (goes_on l.moving l.i c.args.at l.list c.loop-i-test.true l.invariant.0) ∙ l.invariant.1),
+    )
+
+pub returns : goal.returns
+returns c = sym (none_left c.loop-i.moving c.loop-i.i c.args.at c.loop-i.list c.loop-i-test.false) ∙ c.loop-i.invariant.1
