@@ -1,13 +1,12 @@
 -- Lines of the input one after the other: what is printed so far, and how the talk goes on behind it.
 use mathlib.Core.Path.{refl, sym, subst}
 use mathlib.Core.List.{List, [], ◌∷◌, ◌++◌, append-nil, append_assoc}
-use Prim.Native.Nat.{ℕ, ◌≤◌}
-use lib.ListN.{length}
+use Prim.Native.Nat.{ℕ}
 use Rattle.standing.specs.declared.entries.Entry.{Entry}
 use Rattle.standing.specs.declared.records.Session.{Session}
 use Rattle.wording.specs.Writing.{Writes}
 use Rattle.wording.specs.declared.writing.Output.{Output}
-use Rattle.wording.proofs.Putting.{writes_nothing, writes_more, writes_as}
+use Rattle.wording.proofs.Putting.{writes_more, writes_as}
 use Rattle.lines.specs.declared.held.Line.{Line}
 use Rattle.transcripts.specs.Transcript.{Talk}
 use Rattle.transcripts.specs.Talking.{Turned, Talked}
@@ -19,8 +18,9 @@ pub record Told (s₀ : Session) (l₀ : List Entry) (lines : List (List ℕ)) (
   pub writes : Writes before said after
   pub onward : (more : List ℕ) → Talk s l rest more → Talk s₀ l₀ lines (said ++ more)
 
-pub none_told : (s : Session) (l : List Entry) (lines : List (List ℕ)) (o : Output) → o.at ≤ length o.bytes.now → Told s l lines o s l lines o
-none_told s l lines o within = record { said = []; writes = writes_nothing o within; onward = λ more talk. talk }
+-- nothing is said; the place may have been brought within the output
+pub none_told : (s : Session) (l : List Entry) (lines : List (List ℕ)) (o p : Output) → Writes o [] p → Told s l lines o s l lines p
+none_told s l lines o p nothing = record { said = []; writes = nothing; onward = λ more talk. talk }
 
 module _ {s₀ : Session} {l₀ : List Entry} {lines : List (List ℕ)} {before after : Output} {s : Session} {l : List Entry} where
   -- nothing is left

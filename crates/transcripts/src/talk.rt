@@ -1,14 +1,15 @@
 // The lines behind the path, one after the other.
-ghost use Rattle.std.specs.Prelude.{◌≤◌, length};
+ghost use Rattle.std.specs.Prelude.{◌≡◌, ◌≤◌, length};
+ghost use Rattle.std.specs.Io.BufRead.{strip_last};
 ghost use Rattle.steps.specs.Calling.{Asks, Finishes, Withdraws};
-ghost use Rattle.wording.specs.Lines.{lines_of};
+ghost use Rattle.wording.specs.Lines.{lf, lines_of};
 ghost use Rattle.transcripts.specs.Replies.{ask_line, finish_line, withdraw_line};
 ghost use Rattle.transcripts.specs.Talking.{Replied, Turned, Talked};
 
 use crate::replies::{InputRefusal, put_ask, put_finish, put_refused, put_withdraw};
 use lines::held::Line;
 use standing::numbers::Terminal;
-use wording::orders::{LF, Order, bytes_before, read_line};
+use wording::orders::{LF, Order, read_line};
 use wording::writing::Output;
 
 fn ask_turn(line: &mut Line, terminal: Terminal, name: &[u8], out: &mut Output)
@@ -45,6 +46,16 @@ fn take_turn(line: &mut Line, text: &[u8], out: &mut Output)
     }
 }
 
+// A line without the LF that ends it, if it has one.
+fn without_end(text: &[u8]) -> &[u8]
+    ensures { result.now ≡ strip_last lf text.now }
+{
+    match text {
+        [line @ .., LF] => line,
+        _ => text,
+    }
+}
+
 // All of some lines.
 pub(crate) fn talk(line: Line, lines: &[u8], out: &mut Output)
     requires { out.old.at ≤ length out.old.bytes.now }
@@ -52,6 +63,6 @@ pub(crate) fn talk(line: Line, lines: &[u8], out: &mut Output)
 {
     let mut line = line;
     for text in lines.split_inclusive(|b| *b == LF) {
-        take_turn(&mut line, &text[..bytes_before(text, LF)], out);
+        take_turn(&mut line, without_end(text), out);
     }
 }

@@ -37,6 +37,11 @@ put_cut out at s =
     (λ _ e. rw e refl)
     (λ h e. rw e (put_behind out (length out) s (omega arith) ∙ sym (put_behind out at s h)))
 
+-- nothing is put
+pub puts_nothing : (out : List ℕ) (at : ℕ) → Puts out at [] (min at (length out)) out
+unfolding put_over
+puts_nothing out at = record { output = refl; place = omega arith }
+
 -- more is put, from where the first ended
 pub puts_more : {out mid after : List ℕ} {at k k' : ℕ} {s t : List ℕ} → Puts out at s k mid → Puts mid k t k' after
     → Puts out at (s ++ t) k' after

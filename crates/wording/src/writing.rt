@@ -31,14 +31,14 @@ impl Output<'_> {
         }
     }
 
-    // All of some bytes: as many as fit are copied at once.
+    // All of some bytes, one after the other: to copy them at once would want C's `memmove`.
     pub fn put_bytes(&mut self, s: &[u8])
         ensures { Writes self.old s.now self.new }
     {
-        let from = self.at.min(self.bytes.len());
-        let fits = s.len().min(self.bytes.len() - from);
-        self.bytes[from..from + fits].copy_from_slice(&s[..fits]);
-        self.at = from + fits;
+        self.at = self.at.min(self.bytes.len());
+        for b in s {
+            self.put(*b);
+        }
     }
 
     // A number, without leading zeros: all but its last digit first.
